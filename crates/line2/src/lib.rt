@@ -1,0 +1,260 @@
+// Lines, and surface points: a point with a normal, which the camber rays are too.
+use errors::Refusal;
+use errors::ScalarAnswer;
+use points::AngleDir;
+use points::Point2;
+use points::PointAnswer;
+use points::Vector2;
+use points::VectorAnswer;
+ghost use mathlib.Core.Path.{_≡_};
+ghost use Rattle.errors.specs.Refusals.{listedScalar};
+ghost use Rattle.points.specs.Listed.{listedPoint};
+ghost use Rattle.line2.specs.Listed.{listedLine, listedRay, listedParams};
+ghost use Rattle.line2.specs.Lines.{lineThrough, lineNormalized, reversedLine, atParam, lineProjection, rayNormalized, rayProjection, atDistance, shiftedRay, rotatedRay, rayLine, halfwayRay};
+ghost use Rattle.line2.specs.Intersection.{intersectionParam};
+
+pub struct Line2 {
+    pub origin: Point2,
+    pub direction: Vector2,
+}
+
+pub struct SurfacePoint2 {
+    pub point: Point2,
+    pub normal: Vector2,
+}
+
+// A line, or why there is none.
+pub enum LineAnswer {
+    Value(Line2),
+    Refused(Refusal),
+}
+
+// A surface point, or why there is none.
+pub enum SurfacePointAnswer {
+    Value(SurfacePoint2),
+    Refused(Refusal),
+}
+
+// Where two lines meet: the fraction along the first and the one along the second.
+pub struct LineParams {
+    pub t: f64,
+    pub s: f64,
+}
+
+// The fractions, no meeting of parallel lines, or a refusal.
+pub enum ParamsAnswer {
+    Value(LineParams),
+    Parallel,
+    Refused(Refusal),
+}
+
+impl Line2 {
+    // The line through a and b, with a at 0 and b at 1.
+    pub fn from_points(a: Point2, b: Point2) -> LineAnswer
+        ensures { λ r. ⌜ listedLine r ≡ lineThrough a b ⌝ }
+    {
+        match points::difference(b, a) {
+            VectorAnswer::Value(d) => LineAnswer::Value(Line2 {
+                origin: a,
+                direction: d,
+            }),
+            VectorAnswer::Refused(r) => LineAnswer::Refused(r),
+        }
+    }
+
+    pub fn new_normalize(origin: Point2, v: Vector2) -> LineAnswer
+        ensures { λ r. ⌜ listedLine r ≡ lineNormalized origin v ⌝ }
+    {
+        match v.normalize() {
+            VectorAnswer::Value(d) => LineAnswer::Value(Line2 {
+                origin,
+                direction: d,
+            }),
+            VectorAnswer::Refused(r) => LineAnswer::Refused(r),
+        }
+    }
+
+    pub fn reversed(self) -> Line2
+        ensures { λ r. ⌜ r ≡ reversedLine self ⌝ }
+    {
+        let origin = self.origin;
+        let d = self.direction;
+        let x = d.x;
+        let y = d.y;
+        let direction = Vector2 { x: -x, y: -y };
+        Line2 { origin, direction }
+    }
+
+    // origin + direction × t.
+    pub fn at(self, t: f64) -> PointAnswer
+        ensures { λ r. ⌜ listedPoint r ≡ atParam self t ⌝ }
+    {
+        let o = self.origin;
+        let d = self.direction;
+        let ox = o.x;
+        let oy = o.y;
+        let dx = d.x;
+        let dy = d.y;
+        points::watch_point(Point2 {
+            x: ox + dx * t,
+            y: oy + dy * t,
+        })
+    }
+
+    // direction · (p - origin).
+    pub fn scalar_project(self, p: Point2) -> ScalarAnswer
+        ensures { λ r. ⌜ listedScalar r ≡ lineProjection self p ⌝ }
+    {
+        let o = self.origin;
+        let d = self.direction;
+        let px = p.x;
+        let py = p.y;
+        let ox = o.x;
+        let oy = o.y;
+        let v = Vector2 {
+            x: px - ox,
+            y: py - oy,
+        };
+        d.dot(v)
+    }
+}
+
+impl SurfacePoint2 {
+    pub fn new_normalize(point: Point2, v: Vector2) -> SurfacePointAnswer
+        ensures { λ r. ⌜ listedRay r ≡ rayNormalized point v ⌝ }
+    {
+        match v.normalize() {
+            VectorAnswer::Value(n) => SurfacePointAnswer::Value(SurfacePoint2 { point, normal: n }),
+            VectorAnswer::Refused(r) => SurfacePointAnswer::Refused(r),
+        }
+    }
+
+    // normal · (p - point).
+    pub fn scalar_projection(self, p: Point2) -> ScalarAnswer
+        ensures { λ r. ⌜ listedScalar r ≡ rayProjection self p ⌝ }
+    {
+        let o = self.point;
+        let n = self.normal;
+        let px = p.x;
+        let py = p.y;
+        let ox = o.x;
+        let oy = o.y;
+        let v = Vector2 {
+            x: px - ox,
+            y: py - oy,
+        };
+        n.dot(v)
+    }
+
+    // point + normal × distance.
+    pub fn at_distance(self, distance: f64) -> PointAnswer
+        ensures { λ r. ⌜ listedPoint r ≡ atDistance self distance ⌝ }
+    {
+        let o = self.point;
+        let n = self.normal;
+        let ox = o.x;
+        let oy = o.y;
+        let nx = n.x;
+        let ny = n.y;
+        points::watch_point(Point2 {
+            x: ox + nx * distance,
+            y: oy + ny * distance,
+        })
+    }
+
+    // The surface point moved along its normal.
+    pub fn shifted(self, distance: f64) -> SurfacePointAnswer
+        ensures { λ r. ⌜ listedRay r ≡ shiftedRay self distance ⌝ }
+    {
+        let normal = self.normal;
+        match self.at_distance(distance) {
+            PointAnswer::Value(p) => SurfacePointAnswer::Value(SurfacePoint2 { point: p, normal }),
+            PointAnswer::Refused(r) => SurfacePointAnswer::Refused(r),
+        }
+    }
+
+    pub fn normal_rotated_90(self, dir: AngleDir) -> SurfacePoint2
+        ensures { λ r. ⌜ r ≡ rotatedRay dir self ⌝ }
+    {
+        let point = self.point;
+        let n = self.normal;
+        let normal = n.rot90(dir);
+        SurfacePoint2 { point, normal }
+    }
+
+    // The line through the point along the normal.
+    pub fn to_line(self) -> Line2
+        ensures { λ r. ⌜ r ≡ rayLine self ⌝ }
+    {
+        let origin = self.point;
+        let direction = self.normal;
+        Line2 { origin, direction }
+    }
+
+    // The ray halfway to another: halfway between the points, along the sum of the normals.
+    pub fn halfway(self, other: SurfacePoint2) -> SurfacePointAnswer
+        ensures { λ r. ⌜ listedRay r ≡ halfwayRay self other ⌝ }
+    {
+        let a = self.point;
+        let b = other.point;
+        let m = self.normal;
+        let n = other.normal;
+        let ax = a.x;
+        let ay = a.y;
+        let bx = b.x;
+        let by = b.y;
+        let mx = m.x;
+        let my = m.y;
+        let nx = n.x;
+        let ny = n.y;
+        match points::watch_point(Point2 {
+            x: ax + (bx - ax) * 0.5,
+            y: ay + (by - ay) * 0.5,
+        }) {
+            PointAnswer::Value(p) => {
+                let sum = Vector2 {
+                    x: mx + nx,
+                    y: my + ny,
+                };
+                SurfacePoint2::new_normalize(p, sum)
+            }
+            PointAnswer::Refused(r) => SurfacePointAnswer::Refused(r),
+        }
+    }
+}
+
+// Where a line meets the line of an edge, whose origin and direction are those of `edge`.
+pub fn intersection_param(line: Line2, edge: Line2) -> ParamsAnswer
+    ensures { λ r. ⌜ listedParams r ≡ intersectionParam line edge ⌝ }
+{
+    let o = line.origin;
+    let d = line.direction;
+    let v = edge.origin;
+    let e = edge.direction;
+    let ox = o.x;
+    let oy = o.y;
+    let dx = d.x;
+    let dy = d.y;
+    let vx = v.x;
+    let vy = v.y;
+    let ex = e.x;
+    let ey = e.y;
+    let det = ex * dy - ey * dx;
+    if !errors::is_finite(det) {
+        return ParamsAnswer::Refused(Refusal::NotFinite);
+    }
+    if points::is_within(1e-12, det) {
+        return ParamsAnswer::Parallel;
+    }
+    let wx = vx - ox;
+    let wy = vy - oy;
+    let t = (wy * ex - wx * ey) / det;
+    let s = (wy * dx - wx * dy) / det;
+    if !errors::is_finite(t) {
+        return ParamsAnswer::Refused(Refusal::NotFinite);
+    }
+    if !errors::is_finite(s) {
+        return ParamsAnswer::Refused(Refusal::NotFinite);
+    }
+    ParamsAnswer::Value(LineParams { t, s })
+}
