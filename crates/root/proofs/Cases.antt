@@ -6,7 +6,8 @@ use native.Mathlib.Nat.{mul-pos, zero-lt-suc}
 use native.Mathlib.Omega.{arith}
 use lib.IntN.{ℤ, pos}
 use lib.Dec.{T, lt→ltb}
-use lib.Ieee.{Float, nan, inf, fin, up, down, lt}
+use lib.Ieee.{Float, nan, inf, fin, up, down, lt, ne}
+use lib.Ieee.Compare.{differs-from-itself}
 use lib.Ieee.Fits.{up-pos}
 use lib.Ieee.Positive.{positive}
 use borrow.Author.Tests.{ltb-true, ltb-false}
@@ -15,6 +16,9 @@ use Rattle.root.specs.Sqrt.{sqrtOf}
 -- the numerator of a finite value that isn't zero
 above : (m : ℕ) (e : ℤ) → 0 < suc m * up e
 above m e = mul-pos (zero-lt-suc m) (up-pos e)
+
+pub root-nan : (x : Float) → ne x x ≡ true → x ≡ sqrtOf x
+root-nan x h = subst (λ (v : Float). v ≡ sqrtOf v) (sym (differs-from-itself x (subst T (sym h) tt))) (unfold sqrtOf in refl)
 
 pub root-below : (x : Float) → lt x (fin false 0 (pos 0)) ≡ true → nan ≡ sqrtOf x
 unfolding lt sqrtOf

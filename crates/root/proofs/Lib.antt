@@ -5,6 +5,7 @@ pub mod Rounded
 pub mod Fields
 pub mod Scaling
 pub mod Cases
+pub mod Exact
 pub mod Units
 pub mod Kept
 pub mod Correct

@@ -1,15 +1,15 @@
 -- The root of a value by whole numbers: where its square in units is m * 4 ^ k, and q is the whole number nearest to the root of m, the rounded root is q * 2 ^ k units.
 -- So its pattern is k * 2 ^ 52 + q. Assumes nothing.
 use mathlib.Core.Path.{_≡_, refl, sym, ap, _∙_, subst}
-use mathlib.Core.Bool.{Bool, true, false, not, cond}
+use mathlib.Core.Bool.{Bool, true, false, not}
 use mathlib.Core.Logic.{_⊎_, inl, inr}
 use Prim.Native.Nat.{ℕ, zero, suc, _+_, _-_, _*_, _/_, _%_, _^_, _≤_, _<_, compare, Ordering, Ordering·lt, Ordering·eq, Ordering·gt}
-use native.Mathlib.Nat.{le-antisymm, le-trans, le-of-eq, lt-of-lt-of-le, lt-of-le-of-lt, lt-of-not-le, not-le-of-lt, eq-or-lt-of-le, mul-le-mul, mul-le-mul-right, mul-pos, mul-mul-mul-comm, le-of-mul-le-mul-right, lt-of-mul-lt-mul-right, mul-lt-mul-of-pos-right, mul-div-cancel, zero-add, div-mul-le-self, div-lt-iff-lt-mul, le-div-iff-mul-le, pow-suc}
+use native.Mathlib.Nat.{le-antisymm, le-trans, lt-of-lt-of-le, lt-of-le-of-lt, lt-of-not-le, not-le-of-lt, eq-or-lt-of-le, mul-le-mul, mul-le-mul-right, mul-pos, mul-mul-mul-comm, le-of-mul-le-mul-right, lt-of-mul-lt-mul-right, mul-lt-mul-of-pos-right, mul-div-cancel, zero-add, div-mul-le-self, div-lt-iff-lt-mul, le-div-iff-mul-le, pow-suc}
 use native.Mathlib.Omega.{arith}
 use lib.IntN.{ℤ}
 use lib.Dec.{T, ltb, isLe, isEq, lt→ltb, leb→le, nleb→lt, eqb→eq}
 use lib.Pow.{pow-add, pow-pos, pow-mono, pow-lt}
-use lib.Ieee.{Float, nan, inf, fin, binary64, low, emax, up, down, size, nearest, odd, units, fits, ofBits, toBits}
+use lib.Ieee.{Float, nan, inf, fin, binary64, low, emax, up, down, size, nearest, odd, units, ofBits, toBits}
 use lib.Ieee.Digits.{size-lt, size-le}
 use lib.Ieee.Fits.{down-pos, odd-fits}
 use lib.Ieee.Exact.{HasValue, odd-sign}
@@ -19,7 +19,8 @@ use Rattle.root.specs.Whole.{IsRoot, wholeRoot}
 use Rattle.root.specs.Sqrt.{rootOfUnits, sqrtOf}
 use Rattle.root.specs.Nearest.{magnitude, square}
 use Rattle.root.specs.Parts.{Rooted, Near, IsScaled}
-use Rattle.root.proofs.Whole.{le-root, root-unique, whole-root}
+use Rattle.root.proofs.Turns.{rooted-root}
+use Rattle.root.proofs.Whole.{le-root, whole-root}
 
 -- ---- the digits below are dropped
 
@@ -37,7 +38,7 @@ module _ (m k s : ℕ) (h : IsRoot (m * 4 ^ k) s) where
   over : s < suc (s / 2 ^ k) * 2 ^ k
   over = div-lt-iff-lt-mul (pow-pos k) .0 (omega arith)
 
-  pub kept-root : IsRoot m (s / 2 ^ k)
+  kept-root : IsRoot m (s / 2 ^ k)
   kept-root = record {
     below = le-of-mul-le-mul-right (rw mul-mul-mul-comm (le-trans (mul-le-mul (div-mul-le-self s (2 ^ k)) (div-mul-le-self s (2 ^ k))) (rw in-units at h .below))) unit;
     above = lt-of-mul-lt-mul-right (2 ^ k * 2 ^ k) (rw mul-mul-mul-comm (lt-of-lt-of-le (rw in-units at h .above) (mul-le-mul over over)));
@@ -46,13 +47,13 @@ module _ (m k s : ℕ) (h : IsRoot (m * 4 ^ k) s) where
 -- ---- 53 digits are kept
 
 module _ (m q : ℕ) (lo : 2 ^ 104 ≤ m) (hi : m < 2 ^ 106) (h : IsRoot m q) where
-  pub root-low : 2 ^ 52 ≤ q
+  root-low : 2 ^ 52 ≤ q
   root-low = le-root m (2 ^ 52) q lo (h .above)
 
-  pub root-high : q < 2 ^ 53
+  root-high : q < 2 ^ 53
   root-high = omega (arith, le-root m q (2 ^ 53 - 1) (h .below) hi)
 
-pub dropped : (k s : ℕ) → 2 ^ 52 ≤ s / 2 ^ k → s / 2 ^ k < 2 ^ 53 → size s - 53 ≡ k
+dropped : (k s : ℕ) → 2 ^ 52 ≤ s / 2 ^ k → s / 2 ^ k < 2 ^ 53 → size s - 53 ≡ k
 dropped k s lo hi = omega (arith, most, least)
   where
     most : size s ≤ 53 + k
@@ -123,7 +124,7 @@ core-near m k q s lo hi near h =
     ∙ ap (λ (x : ℕ). core (m * x) s k) (four-pow k)
     ∙ ap (λ (x : ℕ). units binary64 false x k) (rounds m q (s / 2 ^ k) cut near (2 ^ k) (pow-pos k))
 
-pub rooted-units : (n m k q : ℕ) → n * 2 ^ low binary64 ≡ m * 4 ^ k → 2 ^ 104 ≤ m → m < 2 ^ 106 → Near m q → rootOfUnits n ≡ units binary64 false q k
+rooted-units : (n m k q : ℕ) → n * 2 ^ low binary64 ≡ m * 4 ^ k → 2 ^ 104 ≤ m → m < 2 ^ 106 → Near m q → rootOfUnits n ≡ units binary64 false q k
 rooted-units n m k q e lo hi near =
     opened n
     ∙ ap (λ (x : ℕ). core x (wholeRoot x) (size (wholeRoot x) - 53)) e
@@ -197,10 +198,10 @@ sqrt-plus (fin false zero e) p = absurd p
 sqrt-plus (fin false (suc m) e) p = refl
 
 module _ (x : Float) (p : T (positive x)) (a k q : ℕ) (s : IsScaled (square x) a k) (near : Near (a * 2 ^ 52) q) where
-  pub near-low : 2 ^ 52 ≤ q
+  near-low : 2 ^ 52 ≤ q
   near-low = near-range (a * 2 ^ 52) q (omega (arith, s .low)) (omega (arith, s .high)) near .0
 
-  pub near-high : q ≤ 2 ^ 53
+  near-high : q ≤ 2 ^ 53
   near-high = near-range (a * 2 ^ 52) q (omega (arith, s .low)) (omega (arith, s .high)) near .1
 
   pub rounded : ofBits binary64 (k * 2 ^ 52 + q) ≡ sqrtOf x
@@ -213,6 +214,9 @@ module _ (x : Float) (p : T (positive x)) (a k q : ℕ) (s : IsScaled (square x)
 
 pub word-rooted : {n a k q r : ℕ} → IsScaled n a k → Rooted (a * 2 ^ 10 % 2 ^ 64 * 4 ^ 21) q r → Rooted (a * 2 ^ 52) q r
 word-rooted {n} {a} {k} {q} {r} s w = subst (λ (m : ℕ). Rooted m q r) (omega (arith, s .high)) w
+
+pub word-short : {n a k q r : ℕ} → IsScaled n a k → Rooted (a * 2 ^ 10 % 2 ^ 64 * 4 ^ 21) q r → q < 2 ^ 53
+word-short {n} {a} {k} {q} s w = root-high (a * 2 ^ 52) q (omega (arith, s .low)) (omega (arith, s .high)) (rooted-root refl (word-rooted s w))
 
 pub near-down : {m q r : ℕ} → 0 < m → Rooted m q r → r ≤ q → Near m q
 near-down {m} {q} {r} p h l = record { low = go q (h .sum) l; high = omega (arith, h .sum) }

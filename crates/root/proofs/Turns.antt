@@ -78,5 +78,5 @@ fed-turns v h turns {word} {i} {q} {r} {a} w l e f = fed-whole v word i (word * 
     four : 4 ^ turns ≡ 4 ^ (turns - h) * (2 ^ v * 4)
     four = ap (λ (x : ℕ). 4 ^ x) (sym (sub-add-cancel l)) ∙ pow-add 4 (turns - h) h ∙ ap (λ (x : ℕ). 4 ^ (turns - h) * x) (sym w)
 
-pub rooted-root : {n q r : ℕ} → Rooted (n * 1) q r → IsRoot n q
-rooted-root f = record { below = omega (arith, f .sum); above = omega (arith, f .sum, f .small) }
+pub rooted-root : {m n q r : ℕ} → m ≡ n → Rooted m q r → IsRoot n q
+rooted-root e f = record { below = omega (arith, e, f .sum); above = omega (arith, e, f .sum, f .small) }

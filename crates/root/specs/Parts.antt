@@ -7,7 +7,7 @@ pub record Rooted (n q r : ℕ) : Type 0 where
   pub sum : q * q + r ≡ n
   pub small : r ≤ 2 * q
 
--- q is the whole number nearest to the root of m.
+-- q is the whole number nearest to the root of m, which is above zero: q - 1/2 and q + 1/2 lie on either side, squared.
 pub record Near (m q : ℕ) : Type 0 where
   pub low : q * q < m + q
   pub high : m ≤ q * q + q

@@ -1,6 +1,7 @@
 -- `isqrt::isqrt_u32`: the invariant says that the turns so far have fed q and r. The measure is the turns that are left. Assumes nothing.
 use mathlib.Core.Path.{refl}
 use Prim.Native.Nat.{_≤_, _-_}
+use native.Mathlib.Nat.{mul-one}
 use native.Mathlib.Omega.{arith}
 use borrow.Author.Needs.{needs}
 use Rattle.root.proofs.Turns.{Fed, fed-start, fed-below, turn-0, turn-1, fed-turns, rooted-root}
@@ -53,7 +54,7 @@ loop-again-2 : tie.Need-loop-again-2 Inv-loop μ-loop
 loop-again-2 c = (omega arith, turn-0 30 _ _ _ _ _ (c .before .before .before .loop .inv .1) (omega arith))
 
 returns : tie.Need-returns Inv-loop μ-loop
-returns c = rooted-root (fed-turns 30 16 16 refl (omega arith) (omega arith) (c .before .loop .inv .1))
+returns c = rooted-root (mul-one (c .before .before .args .n)) (fed-turns 30 16 16 refl (omega arith) (omega arith) (c .before .loop .inv .1))
 
 pub isqrt-u32-spec : {M : Type 1} → statement M
 isqrt-u32-spec =

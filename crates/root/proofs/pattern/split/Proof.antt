@@ -1,10 +1,8 @@
 -- `pattern::split`: the fields of the pattern say how many units x is. Assumes nothing.
-use mathlib.Core.Path.{ap, sym, _∙_}
-use Prim.Native.Nat.{ℕ, _+_, _-_, _*_, _/_, _^_}
 use native.Mathlib.Omega.{arith}
 use lib.Bits.{and-mask, mask-lt}
-use lib.Ieee.{binary64, low, toBits}
-use Rattle.root.proofs.Fields.{bits-low, bits-high, plus-number}
+use lib.Ieee.{binary64, toBits}
+use Rattle.root.proofs.Fields.{bits-low, bits-high, square-low, square-high, plus-number}
 use Rattle.root.proofs.Scaling.{rescaled}
 use Rattle.root.proofs.pattern.split.Statement.{statement}
 use Rattle.root.proofs.pattern.split.Tie as tie
@@ -18,9 +16,7 @@ subnormal-requires c κs =
     rw (and-mask (toBits binary64 x) 52) (bits-low x (c .before .good .0 .1) (c .before .pre) (c .if1 .taken) .0, omega arith)
 
 returns : tie.Need-returns
-returns c =
-    let x = c .before .before .args .x in
-    rescaled (ap (λ (n : ℕ). n * 2 ^ low binary64) (and-mask (toBits binary64 x) 52 ∙ sym (bits-low x (c .before .before .good .0 .1) (c .before .before .pre) (c .before .if1 .taken) .1))) (c .subnormal .ensures)
+returns c = rescaled (square-low (c .before .before .args .x) (c .before .before .good .0 .1) (c .before .before .pre) (c .before .if1 .taken)) (c .subnormal .ensures)
 
 normal-requires : tie.Need-normal-requires
 normal-requires c κs =
@@ -28,11 +24,7 @@ normal-requires c κs =
     (omega arith, bits-high x (c .before .good .0 .1) (c .before .pre) (c .if1 .left) .0, mask-lt (toBits binary64 x) 52)
 
 returns-2 : tie.Need-returns-2
-returns-2 c =
-    let x = c .before .before .args .x in
-    let b = toBits binary64 x in
-    rescaled (ap (λ (t : ℕ). (2 ^ 52 + t) * 2 ^ (b / 2 ^ 52 - 1) * 2 ^ low binary64) (and-mask b 52) ∙ sym (ap (λ (n : ℕ). n * 2 ^ low binary64) (bits-high x (c .before .before .good .0 .1) (c .before .before .pre) (c .before .if1 .left) .1))) (c .normal .ensures)
+returns-2 c = rescaled (square-high (c .before .before .args .x) (c .before .before .good .0 .1) (c .before .before .pre) (c .before .if1 .left)) (c .normal .ensures)
 
 pub split-spec : {M : Type 1} → statement M
-split-spec =
-    tie.close (tie.spec float-to-bits-bits subnormal-requires returns normal-requires returns-2)
+split-spec = tie.close (tie.spec float-to-bits-bits subnormal-requires returns normal-requires returns-2)
