@@ -1,0 +1,295 @@
+-- Laws of cleaning point by point, of the curve in an output, and of the points backwards. Assumes nothing.
+use mathlib.Core.Path.{_≡_, refl, sym, ap, _∙_}
+use mathlib.Core.Bool.{Bool, true, false, _||_}
+use mathlib.Core.List.{List, [], _∷_, _++_, append-assoc, append-nil, reverse, reverse-cons}
+use Prim.Native.Nat.{ℕ, zero, suc, _+_, _*_, _%_, _≤_, _<_}
+use native.Mathlib.Numerals.{add-one}
+use native.Mathlib.Omega.{arith}
+use borrow.Author.Tests.{le-ltb}
+use lib.Dec.{ltb}
+use lib.ListN.{length, getD, take, drop, set, length-append, length-drop, length-reverse}
+use lib.Seq.{sets-eq, take-at, drop-append-add, drop-drop}
+use lib.Ieee.{Float, le}
+use Rattle.errors.specs.Answer.{Answer, result, refusal}
+use Rattle.errors.specs.Refusals.{numberOf}
+use Rattle.errors.specs.declared.Refusal.{Refusal}
+use Rattle.points.specs.declared.Point2.{Point2}
+use Rattle.curve2.specs.Section.{pointsOf, pointAt, plainDist}
+use Rattle.curve2.specs.Entry.{tested, badCount, badNumbers, badTolerance, notSpaced, sectionEntry}
+use Rattle.curve2.specs.declared.AlsoBad.{AlsoBad}
+use Rattle.curve2.proofs.Laws.{points-step, points-end}
+use Rattle.cleaning.specs.Cleaning.{kept, keptAfter, lastOf, endsMeet, forcedClosed, closing, numbersOf, placed, curveAnswer, outputAfter, Made}
+use Rattle.cleaning.specs.Keeping.{Held, put, keep, keepAll, closeHeld, allNear, lastPoint, holding}
+use Rattle.cleaning.specs.declared.CurveAnswer.{CurveAnswer}
+use Rattle.cleaning.proofs.Numbers.{points-length, points-numbers, numbers-length, numbers-snoc, last-snoc}
+
+-- ---- the entry tests
+
+-- each of them passed
+pub all-passed : (ts : List (ℕ × Bool)) → tested ts ≡ result tt → (i : ℕ) → getD ts i (0, false) .1 ≡ false
+all-passed [] e i = refl
+all-passed ((n, true) ∷ ts) e i = let z : _≡_ {A = ℕ} 0 1 = cc in absurd (omega arith)
+all-passed ((n, false) ∷ ts) e zero = refl
+all-passed ((n, false) ∷ ts) e (suc i) = all-passed ts e i
+
+pub room-passed : (ns : List Float) (tol : Float) (also : AlsoBad) → sectionEntry ns tol also ≡ result tt → also .room ≡ false
+unfolding sectionEntry
+room-passed ns tol also e =
+    all-passed
+    ((1, badCount 4096 (length ns))
+    ∷ (2, badNumbers ns || also .number)
+    ∷ (3, badTolerance tol || also .tolerance)
+    ∷ (4, also .room)
+    ∷ (6, notSpaced ns tol)
+    ∷ [])
+    e
+    3
+
+-- ---- a point more
+
+drop-behind : {A : Type 0} (xs ys : List A) (n k : ℕ) → length xs ≡ n → drop (n + k) (xs ++ ys) ≡ drop k ys
+drop-behind xs ys n k e = rw (← e) (drop-append-add xs ys k)
+
+last-point : (ps : List Point2) (p : Point2) → lastPoint (ps ++ (p ∷ [])) ≡ p
+unfolding lastPoint lastOf
+last-point [] p = refl
+last-point (q ∷ ps) p = last-snoc q ps p
+
+module _ (old : List Float) (ps : List Point2) (p : Point2) (room : 2 * length ps + 2 ≤ length old) where
+  -- the output before it is written to has room for two numbers behind those that it holds
+  tail-length : 2 * length ps + 2 ≤ length (placed ps old)
+  tail-length = simp (length-append, length-drop) (omega (arith, numbers-length ps))
+
+  count-snoc : length (ps ++ (p ∷ [])) ≡ length ps + 1
+  count-snoc = length-append ps (p ∷ [])
+
+  placed-snoc : set (set (placed ps old) (2 * length ps) (p .x)) (2 * length ps + 1) (p .y) ≡ placed (ps ++ (p ∷ [])) old
+  placed-snoc =
+      let n = numbers-length ps in
+      let t : take (2 * length ps) (placed ps old) ≡ numbersOf ps = take-at _ _ _ n in
+      let e : 2 * length (ps ++ (p ∷ [])) ≡ 2 * length ps + 2 = omega (arith, count-snoc) in
+      let d : drop (2 * length ps + 2) (placed ps old) ≡ drop (2 * length (ps ++ (p ∷ []))) old = drop-behind (numbersOf ps) _ _ 2 n ∙ rw (drop-drop, e) in
+      rw (add-one (2 * length ps)) (sets-eq (p .x ∷ (p .y ∷ [])) (placed ps old) (2 * length ps) tail-length ∙ rw (t, d, numbers-snoc ps p))
+
+  pub put-holding : put (length ps) p (placed ps old) ≡ holding old (ps ++ (p ∷ []))
+  unfolding put holding
+  put-holding = rw (placed-snoc, count-snoc, last-point ps p)
+
+-- ---- point after point
+
+-- what is held after one point more
+module _ (tol : Float) (old : List Float) (p : Point2) (ps : List Point2) (q : Point2) (room : 2 * length (p ∷ ps) + 2 ≤ length old) where
+  keep-drops : le (plainDist q (lastOf p ps)) tol ≡ true → keep tol (holding old (p ∷ ps)) q ≡ holding old (p ∷ ps)
+  unfolding keep holding lastPoint
+  keep-drops e = rw e
+
+  keep-puts : le (plainDist q (lastOf p ps)) tol ≡ false → keep tol (holding old (p ∷ ps)) q ≡ holding old (p ∷ (ps ++ (q ∷ [])))
+  unfolding keep holding lastPoint
+  keep-puts e = rw e (put-holding old (p ∷ ps) q room)
+
+  -- the rest is kept after what is held
+  abbrev After : List Point2 → List Point2 → Type 0
+  After ps qs = keepAll tol (holding old (p ∷ ps)) qs ≡ holding old (p ∷ (ps ++ keptAfter tol (lastOf p ps) qs))
+
+  after-one : (qs : List Point2) → After ps qs → After (ps ++ (q ∷ [])) qs → After ps (q ∷ qs)
+  unfolding keepAll keptAfter
+  after-one qs dropped more = go (le (plainDist q (lastOf p ps)) tol) refl
+    where
+      go : (b : Bool) → le (plainDist q (lastOf p ps)) tol ≡ b → After ps (q ∷ qs)
+      go true e = rw (e, keep-drops e) dropped
+      go false e = rw (e, keep-puts e, more, last-snoc p ps q, append-assoc)
+
+-- the points that cleaning keeps of qs, after those that are held
+pub keep-all : (tol : Float) (old : List Float) (p : Point2) (ps qs : List Point2) → 2 * (length (p ∷ ps) + length qs) ≤ length old
+    → keepAll tol (holding old (p ∷ ps)) qs ≡ holding old (p ∷ (ps ++ keptAfter tol (lastOf p ps) qs))
+unfolding keepAll keptAfter
+keep-all tol old p ps [] h = rw append-nil
+keep-all tol old p ps (q ∷ qs) h = after-one tol old p ps q (omega arith) qs (keep-all tol old p ps qs (omega arith)) (keep-all tol old p (ps ++ (q ∷ [])) qs (omega (arith, length-append ps (q ∷ []))))
+
+-- from the first point on
+pub clean-from : (tol : Float) (old : List Float) (p : Point2) (qs : List Point2) → 2 * (length qs + 1) ≤ length old → keepAll tol (put 0 p old) qs ≡ holding old (kept tol (p ∷ qs))
+unfolding kept lastOf numbersOf
+clean-from tol old p qs h = rw (put-holding old [] p (omega arith)) (keep-all tol old p [] qs (omega arith))
+
+pub keep-count : (tol : Float) (h : Held) (p : Point2) (h₂ : Held) → h₂ ≡ keep tol h p → h₂ .kept .count ≤ h .kept .count + 1
+unfolding keep put
+keep-count tol h p h₂ e = go (le (plainDist p (h .kept .last)) tol) refl
+  where
+    go : (b : Bool) → le (plainDist p (h .kept .last)) tol ≡ b → h₂ .kept .count ≤ h .kept .count + 1
+    go true f = omega (arith, rw f at (ap (λ (k : Held). k .kept .count) e))
+    go false f = omega (arith, rw f at (ap (λ (k : Held). k .kept .count) e))
+
+-- a loop over the points: one more of them, whatever they are read from
+pub keep-next : (tol : Float) (h : Held) (p : Point2) (ps : List Point2) (h₂ : Held) → h₂ ≡ keep tol h p → keepAll tol h (p ∷ ps) ≡ keepAll tol h₂ ps
+unfolding keepAll
+keep-next tol h p ps h₂ e = rw e
+
+-- and where they are read from a list of numbers
+module _ (tol : Float) (ns : List Float) (i : ℕ) (h whole : Held) (inv : keepAll tol h (pointsOf (drop i ns)) ≡ whole) where
+  pub kept-one : i + 1 < length ns → (h₂ : Held) → h₂ ≡ keep tol h (pointAt ns i) → keepAll tol h₂ (pointsOf (drop (i + 2) ns)) ≡ whole
+  kept-one fits h₂ e = sym (keep-next tol h (pointAt ns i) _ h₂ e) ∙ (rw (points-step ns i fits) at inv)
+
+  pub kept-last : length ns ≤ i → h ≡ whole
+  unfolding keepAll
+  kept-last e = rw (points-end ns i e) at inv
+
+first-point : (ns : List Float) → 2 ≤ length ns → pointsOf ns ≡ pointAt ns 0 ∷ pointsOf (drop 2 ns)
+first-point ns h = points-step ns 0 (omega arith)
+
+pub clean-numbers : (tol : Float) (old ns : List Float) → length ns % 2 ≡ 0 → 2 ≤ length ns → length ns ≤ length old
+    → keepAll tol (put 0 (pointAt ns 0) old) (pointsOf (drop 2 ns)) ≡ holding old (kept tol (pointsOf ns))
+clean-numbers tol old ns even least room =
+    let e = first-point ns least in
+    rw e (clean-from tol old (pointAt ns 0) (pointsOf (drop 2 ns)) (omega (arith, points-length ns even, ap length e)))
+
+-- ---- forced closing
+
+close-holding : (tol : Float) (forced : Bool) (old : List Float) (p : Point2) (ps : List Point2) → 2 * length (p ∷ ps) + 2 ≤ length old
+    → closeHeld tol forced (holding old (p ∷ ps)) ≡ holding old (closing tol forced (p ∷ ps))
+unfolding closeHeld forcedClosed endsMeet holding numbersOf
+close-holding tol false old p ps h = refl
+close-holding tol true old p ps h = go (le (plainDist p (lastOf p ps)) tol) refl
+  where
+    go : (b : Bool) → le (plainDist p (lastOf p ps)) tol ≡ b → keep tol (holding old (p ∷ ps)) p ≡ holding old (forcedClosed tol (p ∷ ps))
+    go true e = rw e (keep-drops tol old p ps p h e)
+    go false e = rw e (keep-puts tol old p ps p h e)
+
+-- it adds one point at most
+pub closing-count : (tol : Float) (forced : Bool) (ps : List Point2) → (length ps ≤ length (closing tol forced ps)) × (length (closing tol forced ps) ≤ length ps + 1)
+unfolding forcedClosed endsMeet
+closing-count tol false ps = (omega arith, omega arith)
+closing-count tol true [] = (omega arith, omega arith)
+closing-count tol true (p ∷ ps) = go (endsMeet tol (p ∷ ps)) refl
+  where
+    go : (b : Bool) → endsMeet tol (p ∷ ps) ≡ b → (length (p ∷ ps) ≤ length (forcedClosed tol (p ∷ ps))) × (length (forcedClosed tol (p ∷ ps)) ≤ length (p ∷ ps) + 1)
+    go true e = rw e (omega arith, omega arith)
+    go false e = rw e (omega (arith, length-append (p ∷ ps) (p ∷ [])), omega (arith, length-append (p ∷ ps) (p ∷ [])))
+
+-- ---- a curve in an output
+
+pub held-count : (old : List Float) (ps : List Point2) (h : Held) → h ≡ holding old ps → h .kept .count ≡ length ps
+unfolding holding
+held-count old ps h e = rw e
+
+pub held-output : (old : List Float) (ps : List Point2) (h : Held) → h ≡ holding old ps → h .output ≡ placed ps old
+unfolding holding
+held-output old ps h e = rw e
+
+module _ (old : List Float) (ps : List Point2) (end : ℕ) (out : List Float) (n : end ≡ 2 * length ps) (o : out ≡ placed ps old) where
+  -- its numbers are the output's first
+  pub first-numbers : take end out ≡ numbersOf ps
+  first-numbers = rw o (take-at _ _ _ (numbers-length ps ∙ sym n))
+
+  pub first-length : length (take end out) ≡ end
+  first-length = rw first-numbers (numbers-length ps ∙ sym n)
+
+  -- what is returned of it
+  pub made-result : (tol : Float) (closed : Bool) (count : ℕ) → count ≡ length ps → closed ≡ endsMeet tol (pointsOf (take end out))
+      → Made (result ps) tol old out (CurveAnswer.Value (record { count = count; «is_closed» = closed }))
+  unfolding curveAnswer outputAfter
+  made-result tol closed count e f = record { listed = rw (f, first-numbers, points-numbers ps, e); output = o }
+
+pub made-refused : {answer : Answer (List Point2)} (tol : Float) (old : List Float) (r : Refusal) → answer ≡ refusal (numberOf r) → Made answer tol old old (CurveAnswer.Refused r)
+unfolding curveAnswer outputAfter
+made-refused tol old r e = record { listed = rw e; output = rw e }
+
+-- ---- cleaning, in two steps
+
+pub kept-count : (tol : Float) (p : Point2) (qs : List Point2) → length (keptAfter tol p qs) ≤ length qs
+unfolding keptAfter
+kept-count tol p [] = omega arith
+kept-count tol p (q ∷ qs) = go (le (plainDist q p) tol) refl (kept-count tol p qs) (kept-count tol q qs)
+  where
+    go : (b : Bool) → le (plainDist q p) tol ≡ b → length (keptAfter tol p qs) ≤ length qs → length (keptAfter tol q qs) ≤ length qs → length (keptAfter tol p (q ∷ qs)) ≤ length (q ∷ qs)
+    go true e h k = rw e (omega arith)
+    go false e h k = rw e (omega arith)
+
+module _ (tol : Float) (ns : List Float) (even : length ns % 2 ≡ 0) (least : 2 ≤ length ns) where
+  pub kept-least : 1 ≤ length (kept tol (pointsOf ns))
+  unfolding kept
+  kept-least = rw (first-point ns least) (omega arith)
+
+  pub kept-most : 2 * length (kept tol (pointsOf ns)) ≤ length ns
+  unfolding kept
+  kept-most = let e = first-point ns least in rw e (omega (arith, points-length ns even, ap length e, kept-count tol (pointAt ns 0) (pointsOf (drop 2 ns))))
+
+module _ (tol : Float) (ns old : List Float) (h₁ : Held) (e₁ : h₁ ≡ holding old (kept tol (pointsOf ns)))
+    (even : length ns % 2 ≡ 0) (least : 2 ≤ length ns) (room : length ns + 2 ≤ length old) where
+  pub close-room : 2 * h₁ .kept .count + 2 ≤ length old
+  close-room = omega (arith, kept-most tol ns even least, held-count _ _ _ e₁)
+
+  module _ (forced : Bool) (h₂ : Held) (e₂ : h₂ ≡ closeHeld tol forced h₁) where
+    pub closed-held : h₂ ≡ holding old (closing tol forced (kept tol (pointsOf ns)))
+    unfolding kept
+    closed-held =
+        let few = rw (first-point ns least) at (kept-most tol ns even least) in
+        e₂ ∙ rw (e₁, first-point ns least) (close-holding tol forced old (pointAt ns 0) (keptAfter tol (pointAt ns 0) (pointsOf (drop 2 ns))) (omega arith))
+
+    pub closed-count : (1 ≤ h₂ .kept .count) × (2 * h₂ .kept .count ≤ length old)
+    closed-count =
+        let n = held-count _ _ _ closed-held in
+        let m = closing-count tol forced (kept tol (pointsOf ns)) in
+        (omega (arith, kept-least tol ns even least), omega (arith, kept-most tol ns even least))
+
+    -- the numbers of the curve: as many as they are said to be, and what is returned of them
+    pub closed-length : length (take (2 * h₂ .kept .count) (h₂ .output)) ≡ 2 * h₂ .kept .count
+    closed-length = first-length _ _ (2 * h₂ .kept .count) _ (ap (λ (n : ℕ). 2 * n) (held-count _ _ _ closed-held)) (held-output _ _ _ closed-held)
+
+    pub closed-made : (closed : Bool) → closed ≡ endsMeet tol (pointsOf (take (2 * h₂ .kept .count) (h₂ .output)))
+        → Made (result (closing tol forced (kept tol (pointsOf ns)))) tol old (h₂ .output) (CurveAnswer.Value (record { count = h₂ .kept .count; «is_closed» = closed }))
+    closed-made closed e =
+        made-result _ _ (2 * h₂ .kept .count) _ (ap (λ (n : ℕ). 2 * n) (held-count _ _ _ closed-held)) (held-output _ _ _ closed-held) tol closed _ (held-count _ _ _ closed-held) e
+
+-- ---- 5: fewer than two points are kept
+
+pub too-few : (tol : Float) (p : Point2) (qs : List Point2) → allNear tol p qs ≡ ltb (length (kept tol (p ∷ qs))) 2
+unfolding kept keptAfter allNear
+too-few tol p [] = refl
+too-few tol p (q ∷ qs) = go (le (plainDist q p) tol) refl (too-few tol p qs)
+  where
+    go : (b : Bool) → le (plainDist q p) tol ≡ b → allNear tol p qs ≡ ltb (length (kept tol (p ∷ qs))) 2 → allNear tol p (q ∷ qs) ≡ ltb (length (kept tol (p ∷ (q ∷ qs)))) 2
+    go true e more = rw e more
+    go false e more = rw (e, le-ltb (length (p ∷ (q ∷ keptAfter tol q qs))) 2 (omega arith))
+
+pub too-few-points : (tol : Float) (ns : List Float) (p : Point2) → p ≡ pointAt ns 0 → 2 ≤ length ns → allNear tol p (pointsOf (drop 2 ns)) ≡ ltb (length (kept tol (pointsOf ns))) 2
+too-few-points tol ns p e least = rw (e, first-point ns least) (too-few tol (pointAt ns 0) (pointsOf (drop 2 ns)))
+
+module _ (tol : Float) (ns : List Float) (p : Point2) (i : ℕ) (few : Bool) (inv : allNear tol p (pointsOf (drop i ns)) ≡ few) where
+  module _ (fits : i + 1 < length ns) (d : Float) (e : d ≡ plainDist (pointAt ns i) p) where
+    pub second-found : le d tol ≡ false → false ≡ few
+    unfolding allNear
+    second-found f = rw (points-step ns i fits, ← e, f) at inv
+
+    pub second-not-here : le d tol ≡ true → allNear tol p (pointsOf (drop (i + 2) ns)) ≡ few
+    unfolding allNear
+    second-not-here f = rw (points-step ns i fits, ← e, f) at inv
+
+  pub no-second : length ns ≤ i → true ≡ few
+  unfolding allNear
+  no-second h = rw (points-end ns i h) at inv
+
+-- ---- backwards
+
+pub backwards-length : (ns : List Float) → length ns % 2 ≡ 0 → length ns ≡ 2 * length (reverse (pointsOf ns))
+backwards-length ns h = omega (arith, points-length ns h, length-reverse (pointsOf ns))
+
+-- the points from i on, backwards
+abbrev pub backFrom : List Float → ℕ → List Point2
+backFrom ns i = reverse (pointsOf (drop i ns))
+
+pub back-none : (old ns : List Float) (i : ℕ) → length ns ≤ i → (0 ≡ length (backFrom ns i)) × (old ≡ placed (backFrom ns i) old)
+unfolding numbersOf
+back-none old ns i h = rw (points-end ns i h) (refl, refl)
+
+-- one more behind those that are there, the point in front of them
+module _ (ns : List Float) (i j : ℕ) (step : i ≡ j + 2) (fits : i ≤ length ns) where
+  back-step : backFrom ns j ≡ backFrom ns i ++ (pointAt ns j ∷ [])
+  back-step = rw (points-step ns j (omega arith), step) (reverse-cons (pointAt ns j) (pointsOf (drop (j + 2) ns)))
+
+  pub back-one : (old out : List Float) (count : ℕ) → 2 * count + 2 ≤ length old → count ≡ length (backFrom ns i) → out ≡ placed (backFrom ns i) old
+      → (h : Held) → h ≡ put count (pointAt ns j) out → h ≡ holding old (backFrom ns j)
+  back-one old out count room e inv h f = f ∙ rw (inv, e, back-step) (put-holding old (backFrom ns i) (pointAt ns j) (omega arith))
+
+pub put-count : (count : ℕ) (p : Point2) (out : List Float) (h : Held) → h ≡ put count p out → h .kept .count ≡ count + 1
+unfolding put
+put-count count p out h f = rw f

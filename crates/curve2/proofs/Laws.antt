@@ -1,0 +1,147 @@
+-- Laws of a section's numbers and points. Assumes nothing.
+use mathlib.Core.Path.{_≡_, refl, sym, ap, _∙_}
+use mathlib.Core.Bool.{Bool, true, false, not, _||_, cond}
+use mathlib.Core.List.{List, [], _∷_}
+use Prim.Native.Nat.{ℕ, zero, suc, _+_, _/_, _%_, _≤_, _<_}
+use native.Mathlib.Numerals.{add-one, add-two}
+use native.Mathlib.Omega.{arith}
+use borrow.Author.Tests.{eqb-true, ltb-false, not-false}
+use lib.Dec.{eqb, ltb, lit≤}
+use lib.ListN.{length, getD, drop, drop-of-length-le}
+use lib.Seq.{drop-cons}
+use lib.Ieee.{Float, nan, lt, le}
+use Rattle.errors.specs.Answer.{Answer, result, refusal}
+use Rattle.points.specs.Numbers.{_+f_}
+use Rattle.curve2.specs.Section.{pointsOf, pointAt, plainDist, wholeFrom, wholeLength}
+use Rattle.curve2.specs.Entry.{tested, badCount, inRange, badNumbers, badTolerance, notSpacedFrom, notSpaced, sectionTests, sectionEntry, HasPoints, IsSection}
+use Rattle.curve2.specs.declared.AlsoBad.{AlsoBad}
+
+-- two numbers make the next point
+pub points-step : (ns : List Float) (i : ℕ) → i + 1 < length ns → pointsOf (drop i ns) ≡ pointAt ns i ∷ pointsOf (drop (i + 2) ns)
+unfolding pointsOf
+points-step ns i h =
+    let a : i < length ns = omega arith in
+    let b : suc i < length ns = omega arith in
+    rw (drop-cons ns i nan a, drop-cons ns (suc i) nan b, add-one i, add-two i)
+
+-- none is left
+pub points-end : (ns : List Float) (i : ℕ) → length ns ≤ i → pointsOf (drop i ns) ≡ []
+unfolding pointsOf
+points-end ns i h = rw (drop-of-length-le ns h)
+
+-- two numbers to a point
+pub length-points : (ns : List Float) → length (pointsOf ns) ≡ length ns / 2
+unfolding pointsOf
+length-points [] = refl
+length-points (x ∷ []) = refl
+length-points (x ∷ (y ∷ ns)) = omega (arith, length-points ns)
+
+-- ---- test 2, number by number
+
+module _ (ns : List Float) (i : ℕ) (inv : badNumbers (drop i ns) ≡ badNumbers ns) where
+  pub bad-found : i < length ns → inRange (getD ns i nan) ≡ false → true ≡ badNumbers ns
+  unfolding badNumbers
+  bad-found h p = sym (rw (drop-cons ns i nan h, p)) ∙ inv
+
+  pub bad-passed : i < length ns → inRange (getD ns i nan) ≡ true → badNumbers (drop (i + 1) ns) ≡ badNumbers ns
+  unfolding badNumbers
+  bad-passed h p = rw (add-one i) (sym (rw (drop-cons ns i nan h, p)) ∙ inv)
+
+  pub bad-none : length ns ≤ i → false ≡ badNumbers ns
+  unfolding badNumbers
+  bad-none h = sym (rw (drop-of-length-le ns h)) ∙ inv
+
+-- ---- test 6, edge by edge
+
+module _ (ns : List Float) (tol : Float) (i : ℕ) (l : Float) (inv : notSpacedFrom tol l (pointsOf (drop i ns)) ≡ notSpaced ns tol) where
+  module _ (fits : i + 3 < length ns) (d : Float) (e : d ≡ plainDist (pointAt ns (i + 2)) (pointAt ns i)) where
+    edge : (le d tol || (not (lt l (d +f l)) || notSpacedFrom tol (d +f l) (pointsOf (drop (i + 2) ns)))) ≡ notSpaced ns tol
+    unfolding notSpacedFrom
+    edge = rw (e, points-step ns (i + 2) (omega arith)) (rw (points-step ns i (omega arith), points-step ns (i + 2) (omega arith)) at inv)
+
+    pub too-near : le d tol ≡ true → true ≡ notSpaced ns tol
+    too-near p = rw p at edge
+
+    module _ (far : le d tol ≡ false) where
+      pub not-rising : lt l (d +f l) ≡ false → true ≡ notSpaced ns tol
+      not-rising p = rw (far, p) at edge
+
+      pub edge-passed : lt l (d +f l) ≡ true → notSpacedFrom tol (d +f l) (pointsOf (drop (i + 2) ns)) ≡ notSpaced ns tol
+      edge-passed p = rw (far, p) at edge
+
+  pub all-spaced : i + 2 ≡ length ns → false ≡ notSpaced ns tol
+  unfolding notSpacedFrom
+  all-spaced h = rw (points-step ns i (omega arith), points-end ns (i + 2) (omega arith)) at inv
+
+-- ---- the length of the whole, edge by edge
+
+module _ (ns : List Float) (i : ℕ) (l : Float) (inv : wholeFrom l (pointsOf (drop i ns)) ≡ wholeLength ns) where
+  pub length-step : i + 3 < length ns → (d : Float) → d ≡ plainDist (pointAt ns (i + 2)) (pointAt ns i) → wholeFrom (d +f l) (pointsOf (drop (i + 2) ns)) ≡ wholeLength ns
+  unfolding wholeFrom
+  length-step fits d e = rw (e, points-step ns (i + 2) (omega arith)) (rw (points-step ns i (omega arith), points-step ns (i + 2) (omega arith)) at inv)
+
+  pub length-end : i + 2 ≡ length ns → l ≡ wholeLength ns
+  unfolding wholeFrom
+  length-end h = rw (points-step ns i (omega arith), points-end ns (i + 2) (omega arith)) at inv
+
+-- ---- what passing the entry tests tells
+
+pub or-left : (a b : Bool) → (a || b) ≡ false → a ≡ false
+or-left false b e = refl
+or-left true b e = e
+
+pub or-right : (a b : Bool) → (a || b) ≡ false → b ≡ false
+or-right false b e = e
+or-right true b e = cc
+
+-- none of the tests failed
+abbrev pub NoneBad : List (ℕ × Bool) → Type 0
+NoneBad [] = Unit {0}
+NoneBad (t ∷ ts) = (t .1 ≡ false) × NoneBad ts
+
+pub none-bad : (ts : List (ℕ × Bool)) → tested ts ≡ result tt → NoneBad ts
+none-bad [] e = tt
+none-bad (t ∷ ts) e = go (t .1) (none-bad ts) e
+  where
+    go : (b : Bool) → (tested ts ≡ result tt → NoneBad ts) → cond b (refusal (t .0)) (tested ts) ≡ result tt → (b ≡ false) × NoneBad ts
+    go false k p = (refl, k p)
+    go true k p = let z : _≡_ {A = ℕ} 0 1 = cc in absurd (omega arith)
+
+pub count-even : (most n : ℕ) → badCount most n ≡ false → n % 2 ≡ 0
+count-even most n e = eqb-true (n % 2) 0 (not-false (eqb (n % 2) 0) (or-left _ _ e))
+
+pub count-least : (most n : ℕ) → badCount most n ≡ false → 4 ≤ n
+count-least most n e = ltb-false n 4 (or-left _ _ (or-right (not (eqb (n % 2) 0)) _ e))
+
+pub count-most : (most n : ℕ) → badCount most n ≡ false → n ≤ most + most
+count-most most n e = ltb-false (most + most) n (or-right (ltb n 4) _ (or-right (not (eqb (n % 2) 0)) _ e))
+
+pub has-points : (ns : List Float) (most : ℕ) → most ≤ 4096 → badCount most (length ns) ≡ false → HasPoints ns
+has-points ns most h e = record {
+  even = count-even most (length ns) e;
+  least = count-least most (length ns) e;
+  most = omega (arith, count-most most (length ns) e);
+}
+
+module _ (ns : List Float) (tol : Float) (also : AlsoBad) (e : sectionEntry ns tol also ≡ result tt) where
+  none : NoneBad (sectionTests ns tol also)
+  unfolding sectionEntry
+  none = none-bad (sectionTests ns tol also) e
+
+  pub entry-passed : IsSection ns tol
+  entry-passed = record {
+    points = has-points ns 4096 (lit≤ tt) (none .0);
+    numbers = or-left (badNumbers ns) _ (none .1 .0);
+    tolerance = or-left (badTolerance tol) _ (none .1 .1 .0);
+    spaced = none .1 .1 .1 .1 .0;
+  }
+
+  -- and of the other arguments
+  pub entry-number : also .number ≡ false
+  entry-number = or-right (badNumbers ns) _ (none .1 .0)
+
+  pub entry-tolerance : also .tolerance ≡ false
+  entry-tolerance = or-right (badTolerance tol) _ (none .1 .1 .0)
+
+  pub entry-room : also .room ≡ false
+  entry-room = none .1 .1 .1 .0

@@ -1,0 +1,5 @@
+-- The circle of a crossing, by halving, and the trial between two circles.
+pub mod Halving
+pub mod Ends
+pub mod Trial
+pub mod Tried

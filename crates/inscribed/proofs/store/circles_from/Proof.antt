@@ -1,0 +1,68 @@
+-- `circles_from` hands out the part between the place and the count where the tests passed. Assumes nothing.
+use borrow.Author.Needs.{needs}
+use mathlib.Core.Path.{sym}
+use native.Mathlib.Omega.{arith}
+use Rattle.inscribed.proofs.StoreLaws.{passed-count, part-passed, part-refused}
+use Rattle.inscribed.proofs.store.circles_from.Statement.{statement}
+use Rattle.inscribed.proofs.store.circles_from.Tie as tie
+
+check-circles-from-requires : tie.Need-check-circles-from-requires
+check-circles-from-requires c κs = search needs
+
+enum-told : tie.Need-enum-told
+enum-told c = search needs
+
+mul-start : tie.Need-mul-start
+mul-start c = let p = passed-count _ _ _ (sym (rw (c .enum-told .given .1) at (c .before .before .check-circles-from .ensures))) in omega (arith, p .0, p .1)
+
+mul-end : tie.Need-mul-end
+mul-end c = let p = passed-count _ _ _ (sym (rw (c .enum-told .given .1) at (c .before .before .check-circles-from .ensures))) in omega (arith, p .0, p .1)
+
+mul-result : tie.Need-mul-result
+mul-result c = let p = passed-count _ _ _ (sym (rw (c .enum-told .given .1) at (c .before .before .check-circles-from .ensures))) in omega (arith, p .0, p .1)
+
+sub-result : tie.Need-sub-result
+sub-result c = let p = passed-count _ _ _ (sym (rw (c .enum-told .given .1) at (c .before .before .check-circles-from .ensures))) in omega (arith, p .0, p .1)
+
+part-result-start : tie.Need-part-result-start
+part-result-start c = let p = passed-count _ _ _ (sym (rw (c .enum-told .given .1) at (c .before .before .check-circles-from .ensures))) in omega (arith, p .0, p .1)
+
+part-result-end : tie.Need-part-result-end
+part-result-end c = let p = passed-count _ _ _ (sym (rw (c .enum-told .given .1) at (c .before .before .check-circles-from .ensures))) in omega (arith, p .0, p .1)
+
+enum-told-2 : tie.Need-enum-told-2
+enum-told-2 c = search needs
+
+sub-result-2 : tie.Need-sub-result-2
+sub-result-2 c = search needs
+
+part-result-start-2 : tie.Need-part-result-start-2
+part-result-start-2 c = search needs
+
+part-result-end-2 : tie.Need-part-result-end-2
+part-result-end-2 c = search needs
+
+returns : tie.Need-returns
+returns c = part-passed _ _ _ (sym (rw (c .before .enum-told .given .1) at (c .before .before .before .check-circles-from .ensures)))
+
+returns-2 : tie.Need-returns-2
+returns-2 c = part-refused _ _ _ _ (sym (rw (c .before .enum-told2 .given .1) at (c .before .before .before .check-circles-from .ensures)))
+
+pub circles-from-spec : {M : Type 1} → statement M
+circles-from-spec =
+    tie.close
+    (tie.spec
+    check-circles-from-requires
+    enum-told
+    mul-start
+    mul-end
+    mul-result
+    sub-result
+    part-result-start
+    part-result-end
+    enum-told-2
+    sub-result-2
+    part-result-start-2
+    part-result-end-2
+    returns
+    returns-2)

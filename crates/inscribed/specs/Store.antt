@@ -1,0 +1,71 @@
+-- A store: "the caller's f64 slice with a count of circles in use, packed from its start". Assumes nothing.
+use mathlib.Core.Bool.{Bool, false, not, _&&_, _||_}
+use mathlib.Core.List.{List, [], _∷_, _++_}
+use Prim.Native.Nat.{ℕ, zero, suc, _+_, _*_, _/_, min}
+use lib.Dec.{ltb}
+use lib.ListN.{length, getD, take, drop}
+use lib.Ieee.{Float, nan, lt}
+use lib.Ieee.Scale.{finite}
+use Rattle.points.specs.Numbers.{f0}
+use Rattle.inscribed.specs.declared.Inscribed.{Inscribed}
+
+-- a circle's numbers, in stored order, and how many they are
+abbrev pub width : ℕ
+width = 7
+
+unfoldable pub numbersOf : Inscribed → List Float
+numbersOf c = c .cx ∷ c .cy ∷ c .r ∷ c .p0x ∷ c .p0y ∷ c .p1x ∷ c .p1y ∷ []
+
+-- the circle whose numbers start at i
+unfoldable pub circleFrom : List Float → ℕ → Inscribed
+circleFrom ns i =
+    record { cx = getD ns i nan; cy = getD ns (i + 1) nan; r = getD ns (i + 2) nan; p0x = getD ns (i + 3) nan; p0y = getD ns (i + 4) nan; p1x = getD ns (i + 5) nan; p1y = getD ns (i + 6) nan }
+
+-- the circle in slot k
+abbrev pub circleAt : List Float → ℕ → Inscribed
+circleAt ns k = circleFrom ns (k * width)
+
+-- "It holds its length divided by 7, rounded down, and at most 1,024."
+abbrev pub slotsUpTo : ℕ → List Float → ℕ
+slotsUpTo most ns = min (length ns / width) most
+
+abbrev pub slots : List Float → ℕ
+slots ns = slotsUpTo 1024 ns
+
+-- the circles in the first n slots, first to last
+unfoldable pub circlesFrom : List Float → ℕ → ℕ → List Inscribed
+circlesFrom ns k zero = []
+circlesFrom ns k (suc n) = circleAt ns k ∷ circlesFrom ns (suc k) n
+
+abbrev pub circlesOf : List Float → ℕ → List Inscribed
+circlesOf ns n = circlesFrom ns 0 n
+
+-- ---- what a store holds after a run: the circles from its start on, every number behind them as it was
+
+unfoldable pub allNumbers : List Inscribed → List Float
+unfolding numbersOf
+allNumbers [] = []
+allNumbers (c ∷ cs) = numbersOf c ++ allNumbers cs
+
+unfoldable pub stored : List Inscribed → List Float → List Float
+stored cs old = allNumbers cs ++ drop (width * length cs) old
+
+-- ---- entry tests of a store with a stated count
+
+-- 2: a number of a circle that "isn't finite", or "a circle's radius is below zero"
+unfoldable pub badCircle : Inscribed → Bool
+badCircle c =
+    not (finite (c .cx) && (finite (c .cy) && (finite (c .r) && (finite (c .p0x) && (finite (c .p0y) && (finite (c .p1x) && finite (c .p1y))))))) || lt (c .r) f0
+
+unfoldable pub anyBad : List Inscribed → Bool
+unfolding badCircle
+anyBad [] = false
+anyBad (c ∷ cs) = badCircle c || anyBad cs
+
+-- "of a store only the circles in use, as far as it holds them, are tested"
+abbrev pub badStore : List Float → ℕ → Bool
+badStore ns count = anyBad (circlesOf ns (min count (slots ns)))
+
+-- 4: "stated count above what the store holds"
+abbrev pub badStoreCount : List Float → ℕ → Bool
+badStoreCount ns count = ltb (slots ns) count

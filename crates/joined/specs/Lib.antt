@@ -1,0 +1,2 @@
+-- What the joined crossing keeps of the hits.
+pub mod Fractions

@@ -1,0 +1,54 @@
+-- `crossing_line`: "answers exactly if two remain"; and the joined crossing. Assumes nothing.
+use mathlib.Core.Bool.{Bool, false}
+use mathlib.Core.List.{List, [], _∷_}
+use mathlib.Core.Option.{Option, some, none}
+use lib.Ieee.{Float}
+use Rattle.errors.specs.Answer.{Answer, result, refusal, _>>=_}
+use Rattle.errors.specs.Refusals.{numberOf}
+use Rattle.line2.specs.Lines.{lineThrough, atParam}
+use Rattle.line2.specs.declared.Line2.{Line2}
+use Rattle.queries.specs.Hits.{Hit, hitsOf, sorted, dropped, nearby, nearbyOnEdge}
+use Rattle.queries.specs.declared.Crossing.{Crossing}
+use Rattle.queries.specs.declared.CrossingAnswer.{CrossingAnswer}
+
+-- the fractions of the two hits
+pub record Span : Type 0 where
+  pub t0 : Float
+  pub t1 : Float
+
+-- exactly two
+unfoldable pub spanOf : List Hit → Option Span
+spanOf [] = none
+spanOf (g ∷ []) = none
+spanOf (g ∷ (h ∷ [])) = some (record { t0 = g .t; t1 = h .t })
+spanOf (g ∷ (h ∷ (k ∷ hs))) = none
+
+-- the line from the first hit to the second
+unfoldable pub spanned : Line2 → Span → Answer Crossing
+spanned l s = atParam l (s .t0) >>= λ a. atParam l (s .t1) >>= λ b. lineThrough a b >>= λ k. result (record { line = k })
+
+unfoldable pub crossed : Line2 → Option Span → Answer (Option Crossing)
+unfolding spanned
+crossed l none = result none
+crossed l (some s) = spanned l s >>= λ c. result (some c)
+
+-- collect, sort, drop, count
+unfoldable pub crossingWith : (Hit → Hit → Bool) → List Float → Line2 → Answer (Option Crossing)
+crossingWith near ns l = hitsOf ns l >>= λ hs. crossed l (spanOf (dropped near (sorted hs)))
+
+abbrev pub crossingOf : List Float → Line2 → Answer (Option Crossing)
+crossingOf ns l = crossingWith nearbyOnEdge ns l
+
+-- "as above, but a hit nearer than 1e-8 in fraction to the last kept hit is dropped, on any edge"
+abbrev pub joinedCrossingOf : List Float → Line2 → Answer (Option Crossing)
+joinedCrossingOf ns l = crossingWith nearby ns l
+
+-- 8: "a line asked for directly, or a start line, has not exactly two hits"
+abbrev pub orNoCrossing : Option Crossing → Answer Crossing
+orNoCrossing none = refusal 8
+orNoCrossing (some c) = result c
+
+abbrev pub listedCrossing : CrossingAnswer → Answer (Option Crossing)
+listedCrossing (CrossingAnswer.Value c) = result (some c)
+listedCrossing CrossingAnswer.Missed = result none
+listedCrossing (CrossingAnswer.Refused r) = refusal (numberOf r)

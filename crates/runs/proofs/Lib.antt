@@ -1,0 +1,3 @@
+-- The laws of runs.
+pub mod RunLaws
+pub mod LimitLaws

@@ -1,0 +1,2 @@
+-- Runs counted in units.
+pub mod Run
