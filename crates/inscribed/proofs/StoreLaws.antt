@@ -2,7 +2,7 @@
 use mathlib.Core.Path.{_≡_, refl, sym, ap, _∙_}
 use mathlib.Core.Bool.{Bool, true, false, _||_, cond}
 use mathlib.Core.List.{List, [], _∷_, _++_, append-assoc, append-nil}
-use Prim.Native.Nat.{ℕ, zero, suc, _+_, _-_, _*_, _/_, _≤_, _<_, min}
+use Prim.Native.Nat.{ℕ, zero, suc, _+_, _-_, _*_, _≤_, _<_, min}
 use native.Mathlib.Numerals.{add-one, add-two, add-three, add-four, add-five, add-six}
 use native.Mathlib.Nat.{add-zero}
 use native.Mathlib.Omega.{arith}
@@ -11,7 +11,10 @@ use lib.Dec.{ltb}
 use lib.ListN.{length, getD, set, take, drop, length-append, length-drop, take-append-drop}
 use lib.Seq.{drop-cons, drop-drop, take-add, sets-eq, take-at, drop-append-add, getD-append-add}
 use lib.Ieee.{Float, nan}
-use Rattle.errors.specs.Answer.{Answer, result, refusal}
+use Rattle.errors.specs.Answer.{result, refusal}
+use Rattle.errors.specs.declared.Refusal.{Refusal}
+use Rattle.curve2.specs.Entry.{listedEntry}
+use Rattle.curve2.specs.declared.Entry.{Entry}
 use Rattle.inscribed.specs.Store.{numbersOf, circleFrom, circleAt, circlesFrom, circlesOf, allNumbers, stored, badCircle, anyBad, slots, badStore, badStoreCount}
 use Rattle.inscribed.specs.Parts.{withCircle, circlesEntry, numbersFrom}
 use Rattle.inscribed.specs.declared.Inscribed.{Inscribed}
@@ -149,9 +152,9 @@ module _ (ns : List Float) (k n : ℕ) (whole : Bool) (inv : anyBad (circlesFrom
 
 -- ---- what can be handed out
 
-pub passed-count : (ns : List Float) (count place : ℕ) → circlesEntry ns count place ≡ result tt → (place ≤ count) × (count * 7 ≤ length ns)
+entry-bounds : (ns : List Float) (count place : ℕ) → circlesEntry ns count place ≡ result tt → (place ≤ count) × (count * 7 ≤ length ns)
 unfolding circlesEntry
-passed-count ns count place e = go (badStore ns count) (badStoreCount ns count) (ltb count place) refl refl e
+entry-bounds ns count place e = go (badStore ns count) (badStoreCount ns count) (ltb count place) refl refl e
   where
     go : (a b d : Bool) → badStoreCount ns count ≡ b → ltb count place ≡ d → cond a (refusal 2) (cond (b || d) (refusal 4) (result (tt {0}))) ≡ result (tt {0}) → (place ≤ count) × (count * 7 ≤ length ns)
     go true b d p q f = let z : _≡_ {A = ℕ} 0 1 = cc in absurd (omega arith)
@@ -159,11 +162,14 @@ passed-count ns count place e = go (badStore ns count) (badStoreCount ns count) 
     go false false true p q f = let z : _≡_ {A = ℕ} 0 1 = cc in absurd (omega arith)
     go false false false p q f = (ltb-false count place q, omega (arith, ltb-false (slots ns) count p))
 
-module _ (ns : List Float) (count place : ℕ) where
-  pub part-passed : circlesEntry ns count place ≡ result tt → take (count * 7 - place * 7) (drop (place * 7) ns) ≡ numbersFrom ns count place
-  unfolding numbersFrom
-  part-passed e = let z : (count - place) * 7 ≡ count * 7 - place * 7 = omega arith in rw (e, z)
+module _ (ns : List Float) (count place : ℕ) (r : Entry) (is : listedEntry r ≡ circlesEntry ns count place) where
+  pub part-bounds : r ≡ Entry.Passed → (place ≤ count) × (count * 7 ≤ length ns)
+  part-bounds e = entry-bounds ns count place (sym (rw e at is))
 
-  pub part-refused : (n : ℕ) → circlesEntry ns count place ≡ refusal n → [] ≡ numbersFrom ns count place
+  pub part-passed : r ≡ Entry.Passed → take (count * 7 - place * 7) (drop (place * 7) ns) ≡ numbersFrom ns count place
   unfolding numbersFrom
-  part-refused n e = rw e
+  part-passed e = let z : (count - place) * 7 ≡ count * 7 - place * 7 = omega arith in rw (← (rw e at is), z)
+
+  pub part-refused : (x : Refusal) → r ≡ Entry.Refused x → [] ≡ numbersFrom ns count place
+  unfolding numbersFrom
+  part-refused x e = rw (← (rw e at is))

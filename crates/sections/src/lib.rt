@@ -15,7 +15,7 @@ ghost use Rattle.errors.specs.Refusals.{listedScalar};
 ghost use Rattle.curve2.specs.Entry.{sectionEntry, listedEntry};
 ghost use Rattle.stations.specs.Stations.{lastVertex, listedStation};
 ghost use Rattle.sections.specs.Asked.{finitePoint, finiteLine, closedAsked, lengthAsked, frontAsked, backAsked, vertexAsked, atLengthAsked, lengthAlongAsked, closestAsked, crossingAsked, joinedAsked, listedBool};
-ghost use Rattle.sections.specs.Listed.{listedCrossingAsked};
+ghost use Rattle.sections.specs.Listed.{listedCrossingAsked, askedOf};
 
 // Yes or no, or why there is neither.
 pub enum BoolAnswer {
@@ -169,17 +169,24 @@ pub fn at_closest_to_point(section: &[f64], tol: f64, p: Point2) -> StationAnswe
 
 // ---- crossings
 
+// A line asked for directly must cross: 8 where it has not exactly two hits.
+fn asked(found: CrossingAnswer) -> CrossingAsked
+    ensures { λ r. ⌜ listedCrossingAsked r ≡ askedOf found ⌝ }
+{
+    match found {
+        CrossingAnswer::Value(c) => CrossingAsked::Value(c),
+        CrossingAnswer::Missed => CrossingAsked::Refused(Refusal::NoCrossing),
+        CrossingAnswer::Refused(r) => CrossingAsked::Refused(r),
+    }
+}
+
 // Where a line crosses the section: 2 where the line isn't finite, 8 where it has not exactly two hits.
 pub fn crossing_line(section: &[f64], tol: f64, line: Line2) -> CrossingAsked
     ensures { λ r. ⌜ listedCrossingAsked r ≡ crossingAsked (now (section .entry)) tol line ⌝ }
 {
     let good = is_finite_line(line);
     match entered(section, tol, !good, false) {
-        Entry::Passed => match queries::crossings::crossing_line(section, line) {
-            CrossingAnswer::Value(c) => CrossingAsked::Value(c),
-            CrossingAnswer::Missed => CrossingAsked::Refused(Refusal::NoCrossing),
-            CrossingAnswer::Refused(r) => CrossingAsked::Refused(r),
-        },
+        Entry::Passed => asked(queries::crossings::crossing_line(section, line)),
         Entry::Refused(r) => CrossingAsked::Refused(r),
     }
 }
@@ -190,11 +197,7 @@ pub fn joined_crossing(section: &[f64], tol: f64, line: Line2) -> CrossingAsked
 {
     let good = is_finite_line(line);
     match entered(section, tol, !good, false) {
-        Entry::Passed => match joined::joined_crossing(section, line) {
-            CrossingAnswer::Value(c) => CrossingAsked::Value(c),
-            CrossingAnswer::Missed => CrossingAsked::Refused(Refusal::NoCrossing),
-            CrossingAnswer::Refused(r) => CrossingAsked::Refused(r),
-        },
+        Entry::Passed => asked(joined::joined_crossing(section, line)),
         Entry::Refused(r) => CrossingAsked::Refused(r),
     }
 }

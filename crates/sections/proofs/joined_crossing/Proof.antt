@@ -1,7 +1,7 @@
--- `joined_crossing` makes the entry tests first, with the line among them, and has 8 for a line that misses. Assumes nothing.
+-- `joined_crossing` makes the entry tests first, with the line among them. Assumes nothing.
 use borrow.Author.Needs.{needs}
-use Rattle.sections.proofs.Laws.{entered-points}
 use Rattle.sections.specs.Asked.{joinedAsked}
+use Rattle.sections.proofs.Laws.{entered-points}
 use Rattle.sections.proofs.joined_crossing.Statement.{statement}
 use Rattle.sections.proofs.joined_crossing.Tie as tie
 
@@ -17,33 +17,19 @@ enum-told c = search needs
 joined-crossing-requires : tie.Need-joined-crossing-requires
 joined-crossing-requires c κs = entered-points _ _ _ _ (c .before .before .entered .ensures) (c .enum-told .given .1)
 
-enum-known-c : tie.Need-enum-known-c
-enum-known-c c = search needs
-
-enum-told-2 : tie.Need-enum-told-2
-enum-told-2 c = search needs
+asked-requires : tie.Need-asked-requires
+asked-requires c κs = search needs
 
 enum-known-r : tie.Need-enum-known-r
 enum-known-r c = search needs
 
-enum-known-r-2 : tie.Need-enum-known-r-2
-enum-known-r-2 c = search needs
-
 returns : tie.Need-returns
 unfolding joinedAsked
-returns c = rw (← (rw (c .before .before .before .before .enum-told .given .1, c .before .before .before .before .before .before .before .is-finite-line .ensures) at (c .before .before .before .before .before .before .entered .ensures)), ← (rw (c .before .c .given .1) at (c .before .before .before .joined-crossing .ensures)))
+returns c = rw (← (rw (c .before .before .enum-told .given .1, c .before .before .before .before .before .is-finite-line .ensures) at (c .before .before .before .before .entered .ensures)), ← (c .before .joined-crossing .ensures)) (c .asked .ensures)
 
 returns-2 : tie.Need-returns-2
 unfolding joinedAsked
-returns-2 c = rw (← (rw (c .before .before .before .enum-told .given .1, c .before .before .before .before .before .before .is-finite-line .ensures) at (c .before .before .before .before .before .entered .ensures)), ← (rw (c .enum-told2 .given .1) at (c .before .before .joined-crossing .ensures)))
-
-returns-3 : tie.Need-returns-3
-unfolding joinedAsked
-returns-3 c = rw (← (rw (c .before .before .before .before .enum-told .given .1, c .before .before .before .before .before .before .before .is-finite-line .ensures) at (c .before .before .before .before .before .before .entered .ensures)), ← (rw (c .before .r .given .1) at (c .before .before .before .joined-crossing .ensures)))
-
-returns-4 : tie.Need-returns-4
-unfolding joinedAsked
-returns-4 c = rw (← (rw (c .before .r2 .given .1, c .before .before .before .before .is-finite-line .ensures) at (c .before .before .before .entered .ensures)))
+returns-2 c = rw (← (rw (c .before .r .given .1, c .before .before .before .before .is-finite-line .ensures) at (c .before .before .before .entered .ensures)))
 
 pub joined-crossing-spec : {M : Type 1} → statement M
 joined-crossing-spec =
@@ -53,11 +39,7 @@ joined-crossing-spec =
     entered-requires
     enum-told
     joined-crossing-requires
-    enum-known-c
-    enum-told-2
+    asked-requires
     enum-known-r
-    enum-known-r-2
     returns
-    returns-2
-    returns-3
-    returns-4)
+    returns-2)

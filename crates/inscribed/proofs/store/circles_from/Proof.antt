@@ -1,8 +1,7 @@
 -- `circles_from` hands out the part between the place and the count where the tests passed. Assumes nothing.
 use borrow.Author.Needs.{needs}
-use mathlib.Core.Path.{sym}
 use native.Mathlib.Omega.{arith}
-use Rattle.inscribed.proofs.StoreLaws.{passed-count, part-passed, part-refused}
+use Rattle.inscribed.proofs.StoreLaws.{part-bounds, part-passed, part-refused}
 use Rattle.inscribed.proofs.store.circles_from.Statement.{statement}
 use Rattle.inscribed.proofs.store.circles_from.Tie as tie
 
@@ -13,22 +12,22 @@ enum-told : tie.Need-enum-told
 enum-told c = search needs
 
 mul-start : tie.Need-mul-start
-mul-start c = let p = passed-count _ _ _ (sym (rw (c .enum-told .given .1) at (c .before .before .check-circles-from .ensures))) in omega (arith, p .0, p .1)
+mul-start c = let p = part-bounds _ _ _ _ (c .before .before .check-circles-from .ensures) (c .enum-told .given .1) in omega (arith, p .0, p .1)
 
 mul-end : tie.Need-mul-end
-mul-end c = let p = passed-count _ _ _ (sym (rw (c .enum-told .given .1) at (c .before .before .check-circles-from .ensures))) in omega (arith, p .0, p .1)
+mul-end c = let p = part-bounds _ _ _ _ (c .before .before .check-circles-from .ensures) (c .enum-told .given .1) in omega (arith, p .0, p .1)
 
 mul-result : tie.Need-mul-result
-mul-result c = let p = passed-count _ _ _ (sym (rw (c .enum-told .given .1) at (c .before .before .check-circles-from .ensures))) in omega (arith, p .0, p .1)
+mul-result c = let p = part-bounds _ _ _ _ (c .before .before .check-circles-from .ensures) (c .enum-told .given .1) in omega (arith, p .0, p .1)
 
 sub-result : tie.Need-sub-result
-sub-result c = let p = passed-count _ _ _ (sym (rw (c .enum-told .given .1) at (c .before .before .check-circles-from .ensures))) in omega (arith, p .0, p .1)
+sub-result c = let p = part-bounds _ _ _ _ (c .before .before .check-circles-from .ensures) (c .enum-told .given .1) in omega (arith, p .0, p .1)
 
 part-result-start : tie.Need-part-result-start
-part-result-start c = let p = passed-count _ _ _ (sym (rw (c .enum-told .given .1) at (c .before .before .check-circles-from .ensures))) in omega (arith, p .0, p .1)
+part-result-start c = let p = part-bounds _ _ _ _ (c .before .before .check-circles-from .ensures) (c .enum-told .given .1) in omega (arith, p .0, p .1)
 
 part-result-end : tie.Need-part-result-end
-part-result-end c = let p = passed-count _ _ _ (sym (rw (c .enum-told .given .1) at (c .before .before .check-circles-from .ensures))) in omega (arith, p .0, p .1)
+part-result-end c = let p = part-bounds _ _ _ _ (c .before .before .check-circles-from .ensures) (c .enum-told .given .1) in omega (arith, p .0, p .1)
 
 enum-told-2 : tie.Need-enum-told-2
 enum-told-2 c = search needs
@@ -43,10 +42,10 @@ part-result-end-2 : tie.Need-part-result-end-2
 part-result-end-2 c = search needs
 
 returns : tie.Need-returns
-returns c = part-passed _ _ _ (sym (rw (c .before .enum-told .given .1) at (c .before .before .before .check-circles-from .ensures)))
+returns c = part-passed _ _ _ _ (c .before .before .before .check-circles-from .ensures) (c .before .enum-told .given .1)
 
 returns-2 : tie.Need-returns-2
-returns-2 c = part-refused _ _ _ _ (sym (rw (c .before .enum-told2 .given .1) at (c .before .before .before .check-circles-from .ensures)))
+returns-2 c = part-refused _ _ _ _ (c .before .before .before .check-circles-from .ensures) _ (c .before .enum-told2 .given .1)
 
 pub circles-from-spec : {M : Type 1} → statement M
 circles-from-spec =
