@@ -65,7 +65,8 @@ fn is_finite_point(p: Point2) -> bool
     false
 }
 
-fn is_finite_line(line: Line2) -> bool
+// Whether a line's numbers are all finite.
+pub fn is_finite_line(line: Line2) -> bool
     ensures { λ r. ⌜ r ≡ finiteLine line ⌝ }
 {
     let origin = line.origin;

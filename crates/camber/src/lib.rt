@@ -1,0 +1,3 @@
+// The march along the camber line.
+pub mod advance;
+pub mod march;

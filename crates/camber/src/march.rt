@@ -1,0 +1,130 @@
+// One march, `extract_half_circles`: refinements and advances by turns.
+use crate::advance::Advanced;
+use curve2::AlsoBad;
+use curve2::Entry;
+use errors::Refusal;
+use inscribed::Inscribed;
+use inscribed::InscribedAnswer;
+use line2::Line2;
+use queries::CrossingAnswer;
+use refine::Run;
+use refine::RunEnd;
+ghost use mathlib.Core.Path.{_≡_};
+ghost use mathlib.Core.List.{[], _∷_};
+ghost use Prim.Native.Nat.{_*_, _≤_};
+ghost use lib.ListN.{length};
+ghost use Rattle.curve2.specs.Entry.{HasPoints, listedEntry};
+ghost use Rattle.inscribed.specs.Circles.{listedInscribed};
+ghost use Rattle.runs.specs.Run.{under};
+ghost use Rattle.refine.specs.Machine.{refining};
+ghost use Rattle.refine.specs.Report.{reported, listedRun};
+ghost use Rattle.camber.specs.March.{marchRun, marchEntry, firstCircle, marchStart, marchOf};
+
+// The march on a checked section from its first circle on, into a store with room for `slots` circles; `units` have been taken before.
+pub fn march_from(
+    section: &[f64],
+    tol: f64,
+    store: &mut [f64],
+    slots: usize,
+    circle: Inscribed,
+    limit: u32,
+    units: u32,
+) -> Run
+    requires { ⌜ HasPoints (now section) ⌝ }
+    requires { ⌜ (slots * 7 ≤ length (now store)) × (units ≤ limit) ⌝ }
+    ensures { λ r. ⌜ listedRun r (now (store .exit)) ≡ reported (now (store .entry)) (marchRun (now (section .entry)) tol slots (under limit) (refining [] (circle ∷ [])) units) ⌝ }
+{
+    let mut next = circle;
+    let mut n: usize = 0;
+    let mut u = units;
+    loop {
+        let ran = refine::refine(section, tol, store, slots, n, next, limit, u);
+        let end = ran.end;
+        let count = ran.count;
+        let taken = ran.units;
+        match end {
+            RunEnd::Finished => {}
+            RunEnd::Spent => {
+                return ran;
+            }
+            RunEnd::Refused(_) => {
+                return ran;
+            }
+        }
+        let k = count - 1;
+        let last = inscribed::store::circle_at(store, k);
+        match crate::advance::advance(section, tol, last, limit, taken) {
+            Advanced::Ended(end, units) => {
+                return Run { end, count, units };
+            }
+            Advanced::Next(d, v) => {
+                next = d;
+                n = count;
+                u = v;
+            }
+        }
+    }
+}
+
+// The entry tests of a march.
+fn entered(section: &[f64], section_tol: f64, tol: f64, line: Line2) -> Entry
+    ensures { λ r. ⌜ listedEntry r ≡ marchEntry (now (section .entry)) «section_tol» tol line ⌝ }
+{
+    let good = sections::is_finite_line(line);
+    let tolerance = refine::is_bad_general(tol);
+    let also = AlsoBad {
+        number: !good,
+        tolerance,
+        room: false,
+    };
+    curve2::section_entry(section, section_tol, also)
+}
+
+// The circle of the start line's crossing: 8 where it has not exactly two hits.
+fn first_circle(section: &[f64], tol: f64, line: Line2) -> InscribedAnswer
+    requires { ⌜ HasPoints (now section) ⌝ }
+    ensures { λ r. ⌜ listedInscribed r ≡ firstCircle (now (section .entry)) tol line ⌝ }
+{
+    match queries::crossings::crossing_line(section, line) {
+        CrossingAnswer::Value(x) => halving::from_crossing(section, tol, x),
+        CrossingAnswer::Missed => InscribedAnswer::Refused(Refusal::NoCrossing),
+        CrossingAnswer::Refused(r) => InscribedAnswer::Refused(r),
+    }
+}
+
+// Where a march starts: the entry tests, then the first circle.
+fn start(section: &[f64], section_tol: f64, tol: f64, line: Line2) -> InscribedAnswer
+    ensures { λ r. ⌜ listedInscribed r ≡ marchStart (now (section .entry)) «section_tol» tol line ⌝ }
+{
+    match entered(section, section_tol, tol, line) {
+        Entry::Passed => first_circle(section, tol, line),
+        Entry::Refused(r) => InscribedAnswer::Refused(r),
+    }
+}
+
+// One march from a line, into a store that holds no circle yet, within a limit of units.
+pub fn march(
+    section: &[f64],
+    section_tol: f64,
+    tol: f64,
+    line: Line2,
+    store: &mut [f64],
+    limit: u32,
+) -> Run
+    ensures { λ r. ⌜ listedRun r (now (store .exit)) ≡ marchOf (record { section = now (section .entry); sectionTol = «section_tol»; tol = tol; line = line; store = now (store .entry) }) limit ⌝ }
+{
+    match start(section, section_tol, tol, line) {
+        InscribedAnswer::Value(c) => {
+            let slots = inscribed::store::slots_up_to(1024, store.len());
+            march_from(section, tol, store, slots, c, limit, 0)
+        }
+        InscribedAnswer::Refused(r) => {
+            let end = RunEnd::Refused(r);
+            Run {
+                end,
+                count: 0,
+                units: 0,
+            }
+        }
+    }
+}

@@ -1,0 +1,124 @@
+-- The limit law of any run of the machine whose list grows at its end and whose pairs stay settled: refinements and marches are such. Assumes nothing.
+use mathlib.Core.Path.{_≡_, refl, sym, ap, _∙_}
+use mathlib.Core.Bool.{Bool}
+use mathlib.Core.List.{List, [], _∷_, _++_, append-assoc}
+use Prim.Native.Nat.{ℕ, zero, suc, _+_, _-_, _*_, _≤_, _<_, min}
+use native.Mathlib.Nat.{add-zero}
+use native.Mathlib.Omega.{arith}
+use lib.ListN.{length, take, drop, length-append, length-drop, take-append-drop}
+use lib.Seq.{take-at, drop-at, drop-append-le}
+use lib.Ieee.{Float}
+use Rattle.errors.specs.Answer.{Answer, result, refusal}
+use Rattle.runs.specs.Run.{Move, goes, pays, Ending, ended, spent, Out, under, never, whole}
+use Rattle.runs.proofs.LimitLaws.{Grows, part-grows, run-holds, spent-if, if-spent, not-spent, units-min, not-spent-later, part-later}
+use Rattle.inscribed.specs.Store.{circlesOf, numbersOf, allNumbers, stored}
+use Rattle.inscribed.specs.declared.Inscribed.{Inscribed}
+use Rattle.inscribed.proofs.StoreLaws.{length-all, length-circles, numbers-of-circles}
+use Rattle.refine.specs.Machine.{State, circlesIn, End}
+use Rattle.refine.specs.Report.{Report, reported, refusedOnEntry}
+use Rattle.refine.specs.Law.{Settled, LimitLaw}
+use Rattle.refine.proofs.MachineLaws.{Part, Sound}
+
+-- the old last circle, if there is one
+abbrev pub oldLast : List Float → ℕ → List Inscribed
+oldLast old count = drop (count - 1) (circlesOf old count)
+
+numbers-append : (cs ds : List Inscribed) → allNumbers (cs ++ ds) ≡ allNumbers cs ++ allNumbers ds
+unfolding allNumbers
+numbers-append [] ds = refl
+numbers-append (c ∷ cs) ds = rw (numbers-append cs ds) (sym (append-assoc (numbersOf c) (allNumbers cs) (allNumbers ds)))
+
+append-none : {A : Type 0} (xs : List A) → xs ++ [] ≡ xs
+append-none [] = refl
+append-none (x ∷ xs) = ap (λ (l : List _). x ∷ l) (append-none xs)
+
+pub short-settled : (ns : List Float) (tol : Float) (cs : List Inscribed) → length cs ≤ 1 → Settled ns tol cs
+short-settled ns tol [] h = tt
+short-settled ns tol (a ∷ []) h = tt
+short-settled ns tol (a ∷ (b ∷ cs)) h = absurd (omega arith)
+
+pub short-last : (old : List Float) (count : ℕ) → length (oldLast old count) ≤ 1
+short-last old count = omega (arith, length-drop (count - 1) (circlesOf old count), length-circles old 0 count)
+
+-- ---- refused on entry: nothing happens, whatever the limit
+
+pub entry-law : (ns : List Float) (tol : Float) (old : List Float) (count n limit : ℕ)
+    → LimitLaw ns tol old (oldLast old count) count (λ l. refusedOnEntry old count n) (refusedOnEntry old count n) (λ l. []) limit
+unfolding allNumbers
+entry-law ns tol old count n limit = record {
+  store = rw (add-zero count, append-none (take (7 * count) old)) (sym (take-append-drop (7 * count) old));
+  counted = sym (add-zero count);
+  settled = rw (append-none (oldLast old count)) (short-settled ns tol (oldLast old count) (short-last old count));
+  spent-if = λ h. absurd (omega arith);
+  if-spent = λ e. let z : _≡_ {A = ℕ} 0 1 = cc in absurd (omega arith);
+  units = omega arith;
+  otherwise = λ m. refl;
+  larger = λ more h m. refl;
+  first = λ more h. refl;
+  fewer = λ more h. omega arith;
+}
+
+-- ---- a run
+
+module _ (step : State → Move State End) (measure : State → ℕ) (grows : Grows step Part) (ns : List Float) (tol : Float) (old : List Float) (count : ℕ) (start : State)
+    (begins : circlesIn start ≡ circlesOf old count) (room : 7 * count ≤ length old) (start-sound : Sound ns tol count start)
+    (sound-goes : (s t : State) → step s ≡ goes t → Sound ns tol count s → Sound ns tol count t) (sound-pays : (s t : State) → step s ≡ pays t → Sound ns tol count s → Sound ns tol count t) where
+  abbrev pub circlesUnder : (ℕ → Bool) → List Inscribed
+  circlesUnder full = circlesIn (whole step measure full start 0 .state)
+
+  -- the old circles, and then those accepted
+  whole-list : (full : ℕ → Bool) → circlesUnder full ≡ circlesOf old count ++ drop count (circlesUnder full)
+  unfolding whole
+  whole-list full =
+      let p = part-grows step Part grows full (suc (measure start)) start 0 in
+      let e : circlesUnder full ≡ circlesOf old count ++ p .0 = p .1 ∙ ap (λ (x : List Inscribed). x ++ p .0) begins in
+      let d : drop count (circlesUnder full) ≡ p .0 = ap (λ (x : List Inscribed). drop count x) e ∙ drop-at (circlesOf old count) (p .0) count (length-circles old 0 count) in
+      e ∙ ap (λ (x : List Inscribed). circlesOf old count ++ x) (sym d)
+
+  whole-count : (full : ℕ → Bool) → length (circlesUnder full) ≡ count + length (drop count (circlesUnder full))
+  whole-count full =
+      ap length (whole-list full) ∙ length-append (circlesOf old count) (drop count (circlesUnder full)) ∙ ap (λ (x : ℕ). x + length (drop count (circlesUnder full))) (length-circles old 0 count)
+
+  whole-store : (full : ℕ → Bool) → stored (circlesUnder full) old ≡ take (7 * count) old ++ allNumbers (drop count (circlesUnder full)) ++ drop (7 * (count + length (drop count (circlesUnder full)))) old
+  unfolding stored
+  whole-store full =
+      let ds = drop count (circlesUnder full) in
+      let n : allNumbers (circlesUnder full) ≡ take (7 * count) old ++ allNumbers ds =
+      ap allNumbers (whole-list full) ∙ numbers-append (circlesOf old count) ds ∙ ap (λ (x : List Float). x ++ allNumbers ds) (numbers-of-circles old count room) in
+      ap (λ (x : List Float). x ++ drop (7 * length (circlesUnder full)) old) n ∙ ap (λ (x : ℕ). take (7 * count) old ++ allNumbers ds ++ drop (7 * x) old) (whole-count full)
+
+  whole-settled : (full : ℕ → Bool) → Settled ns tol (oldLast old count ++ drop count (circlesUnder full))
+  unfolding whole
+  whole-settled full =
+      let s = run-holds step full (Sound ns tol count) sound-goes sound-pays (suc (measure start)) start 0 start-sound in
+      let d : drop (count - 1) (circlesUnder full) ≡ oldLast old count ++ drop count (circlesUnder full) =
+      ap (λ (x : List Inscribed). drop (count - 1) x) (whole-list full) ∙ drop-append-le (count - 1) (circlesOf old count) (drop count (circlesUnder full)) (omega (arith, length-circles old 0 count)) in
+      rw d at (s .settled)
+
+  -- the first numbers are those of the first circles
+  first-numbers : (cs more : List Inscribed) → take (7 * length cs) (stored (cs ++ more) old) ≡ allNumbers cs
+  unfolding stored
+  first-numbers cs more =
+      rw (numbers-append cs more, append-assoc (allNumbers cs) (allNumbers more) (drop (7 * length (cs ++ more)) old))
+      (take-at (allNumbers cs) (allNumbers more ++ drop (7 * length (cs ++ more)) old) (7 * length cs) (length-all cs))
+
+  abbrev pub at : ℕ → Report
+  at limit = reported old (whole step measure (under limit) start 0)
+
+  pub run-law : (limit : ℕ) → LimitLaw ns tol old (oldLast old count) count at (reported old (whole step measure never start 0)) (λ l. drop count (circlesUnder (under l))) limit
+  unfolding reported
+  run-law limit = record {
+    store = whole-store (under limit);
+    counted = whole-count (under limit);
+    settled = whole-settled (under limit);
+    spent-if = spent-if step measure start Part grows limit;
+    if-spent = if-spent step measure start Part grows limit;
+    units = units-min step measure start Part grows limit;
+    otherwise = λ m. ap (λ (o : Out State End). reported old o) (not-spent step measure start Part grows limit m);
+    larger = λ more h m. ap (λ (o : Out State End). reported old o) (not-spent-later step measure start Part grows limit more h m);
+    first = λ more h.
+        let p = part-later step measure start Part grows limit more h in
+        let cs = circlesUnder (under limit) in
+        rw (p .1) (first-numbers cs (p .0)) ∙ sym (ap (λ (x : List Inscribed). take (7 * length cs) (stored x old)) (sym (append-none cs)) ∙ first-numbers cs []);
+    fewer = λ more h. let p = part-later step measure start Part grows limit more h in omega (arith, ap length (p .1), length-append (circlesUnder (under limit)) (p .0));
+  }

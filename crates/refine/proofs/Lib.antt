@@ -1,0 +1,5 @@
+-- Laws that belong to no one function.
+pub mod MachineLaws
+pub mod LawOfRuns
+pub mod RefinementLaw
+pub mod RefineLaws

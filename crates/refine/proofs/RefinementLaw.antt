@@ -1,0 +1,99 @@
+-- Demand 3 of refinements. Assumes nothing.
+use mathlib.Core.Path.{_≡_, refl, sym, ap, _∙_}
+use mathlib.Core.Bool.{Bool, true, false, cond}
+use mathlib.Core.List.{List, [], _∷_, _++_}
+use mathlib.Core.Logic.{_⊎_, inl, inr, ⊎-elim}
+use Prim.Native.Nat.{ℕ, zero, suc, _+_, _-_, _*_, _/_, _≤_, _<_, min}
+use native.Mathlib.Omega.{arith}
+use borrow.Author.Tests.{ltb-false}
+use lib.Dec.{leb}
+use lib.ListN.{length, take, drop, length-append}
+use lib.Seq.{drop-append-le}
+use lib.Ieee.{Float}
+use Rattle.errors.specs.Answer.{Answer, result, refusal}
+use Rattle.curve2.specs.Entry.{HasPoints}
+use Rattle.curve2.proofs.Laws.{entry-passed, entry-room}
+use Rattle.runs.specs.Run.{Move, ends, goes, pays, Ending, ended, spent, Out, under, never, whole}
+use Rattle.runs.proofs.LimitLaws.{run-holds, ended-step}
+use Rattle.inscribed.specs.Store.{slots, circlesOf}
+use Rattle.inscribed.specs.declared.Inscribed.{Inscribed}
+use Rattle.inscribed.proofs.StoreLaws.{length-circles}
+use Rattle.refine.specs.Machine.{State, refining, advancing, over, circlesIn, End, finished, refineMove, measure}
+use Rattle.refine.specs.Report.{Report, reported, refusedOnEntry}
+use Rattle.refine.specs.Refinement.{refineStep, Offer, refineEntry, offeredRun, afterEntry, refinement, refineOf, plainRefinement, acceptedAfter, accepted}
+use Rattle.refine.specs.Law.{Settled, LimitLaw, OfferedLast}
+use Rattle.refine.proofs.MachineLaws.{refine-grows, Sound, refine-sound-goes, refine-sound-pays, Offered, Kept, refine-offered-goes, refine-offered-pays}
+use Rattle.refine.proofs.LawOfRuns.{oldLast, entry-law, run-law, short-settled, short-last}
+
+pub within-slots : (ns : List Float) (count : ℕ) → count ≤ slots ns → 7 * count ≤ length ns
+within-slots ns count h = omega arith
+
+module _ (o : Offer) where
+  abbrev olds : List Inscribed
+  olds = circlesOf (o .store) (o .count)
+
+  abbrev step : State → Move State End
+  step = refineStep (o .section) (o .tol) (slots (o .store))
+
+  abbrev start : State
+  start = refining olds (o .circle ∷ [])
+
+  pub entry-count : refineEntry o ≡ result tt → o .count ≤ slots (o .store)
+  unfolding refineEntry
+  entry-count e = ltb-false (slots (o .store)) (o .count) (entry-room _ _ _ e)
+
+  pub entry-points : refineEntry o ≡ result tt → HasPoints (o .section)
+  unfolding refineEntry
+  entry-points e = entry-passed _ _ _ e .points
+
+  start-sound : Sound (o .section) (o .tol) (o .count) start
+  start-sound = record { held = omega (arith, length-circles (o .store) 0 (o .count)); settled = short-settled (o .section) (o .tol) (oldLast (o .store) (o .count)) (short-last (o .store) (o .count)) }
+
+  pub refine-law : (limit : ℕ) → LimitLaw (o .section) (o .tol) (o .store) (oldLast (o .store) (o .count)) (o .count) (refineOf o) (plainRefinement o) (λ l. accepted o (under l)) limit
+  unfolding refinement afterEntry acceptedAfter
+  refine-law limit = go (refineEntry o) refl
+    where
+      go : (a : Answer (Unit {0})) → refineEntry o ≡ a
+          → LimitLaw (o .section) (o .tol) (o .store) (oldLast (o .store) (o .count)) (o .count) (λ l. afterEntry o (under l) a) (afterEntry o never a) (λ l. acceptedAfter o (under l) a) limit
+      go (refusal n) e = entry-law (o .section) (o .tol) (o .store) (o .count) n limit
+      go (result passed) e =
+          run-law step (measure (slots (o .store))) (refine-grows (o .section) (o .tol) (slots (o .store))) (o .section) (o .tol) (o .store) (o .count) start
+          refl (within-slots (o .store) (o .count) (entry-count e)) start-sound
+          (refine-sound-goes (o .section) (o .tol) (o .count) (slots (o .store))) (refine-sound-pays (o .section) (o .tol) (o .count) (slots (o .store))) limit
+
+  -- ---- the offered circle
+
+  start-kept : Kept (o .section) (o .tol) (o .count) (slots (o .store)) (o .circle) start
+  start-kept = (omega (arith, length-circles (o .store) 0 (o .count)), inl ([], refl))
+
+  finished-offered : (s : State) → Kept (o .section) (o .tol) (o .count) (slots (o .store)) (o .circle) s → step s ≡ ends finished → (before : List Inscribed) × (drop (o .count) (circlesIn s) ≡ before ++ (o .circle ∷ []))
+  unfolding refineStep refineMove
+  finished-offered (refining cs []) h e = ⊎-elim (λ q. none-below q) (λ q. last-one (q .1) (q .2) (q .3)) (h .1)
+    where
+      none-below : ((before : List Inscribed) × (_≡_ {A = List Inscribed} [] (before ++ (o .circle ∷ [])))) → (before : List Inscribed) × (drop (o .count) cs ≡ before ++ (o .circle ∷ []))
+      none-below q = absurd (omega (arith, ap length (q .1), length-append (q .0) (o .circle ∷ [])))
+
+      last-one : (before : List Inscribed) → cs ≡ before ++ (o .circle ∷ []) → o .count ≤ length before → (after : List Inscribed) × (drop (o .count) cs ≡ after ++ (o .circle ∷ []))
+      last-one before q l = (drop (o .count) before, rw q (drop-append-le (o .count) before (o .circle ∷ []) l))
+  finished-offered (refining [] (b ∷ ws)) h e = go (leb (slots (o .store)) 0) e
+    where
+      go : (x : Bool) → cond {A = Move State End} x (ends (refusal 15)) (goes (refining (b ∷ []) ws)) ≡ ends finished → (before : List Inscribed) × (drop (o .count) [] ≡ before ++ (o .circle ∷ []))
+      go true q = let z : _≡_ {A = ℕ} 0 1 = cc in absurd (omega arith)
+      go false q = let z : _≡_ {A = ℕ} 0 1 = cc in absurd (omega arith)
+  finished-offered (refining (c ∷ cs) (b ∷ ws)) h e = let z : _≡_ {A = ℕ} 0 1 = cc in absurd (omega arith)
+  finished-offered (advancing cs k) h e = absurd (h .1)
+  finished-offered (over cs n) h e = let z : _≡_ {A = ℕ} 0 1 = cc in absurd (omega arith)
+
+  pub offered-law : (limit : ℕ) → OfferedLast (o .circle) (refineOf o) (λ l. accepted o (under l)) limit
+  unfolding refinement afterEntry acceptedAfter reported whole
+  offered-law limit = go (refineEntry o)
+    where
+      go : (a : Answer (Unit {0})) → OfferedLast (o .circle) (λ l. afterEntry o (under l) a) (λ l. acceptedAfter o (under l) a) limit
+      go (refusal n) = λ e. let z : _≡_ {A = ℕ} 0 1 = cc in absurd (omega arith)
+      go (result passed) =
+          λ e.
+          finished-offered (offeredRun o (under limit) .state)
+          (run-holds step (under limit) (Kept (o .section) (o .tol) (o .count) (slots (o .store)) (o .circle))
+          (refine-offered-goes (o .section) (o .tol) (o .count) (slots (o .store)) (o .circle)) (refine-offered-pays (o .section) (o .tol) (o .count) (slots (o .store)) (o .circle))
+          (suc (measure (slots (o .store)) start)) start 0 start-kept)
+          (ended-step step (under limit) (suc (measure (slots (o .store)) start)) start 0 finished e)

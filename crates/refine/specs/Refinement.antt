@@ -1,0 +1,78 @@
+-- `refine_and_push`: "demand 3's plain run". Assumes nothing.
+use mathlib.Core.Bool.{Bool, not, _&&_, _||_}
+use mathlib.Core.List.{List, [], _∷_}
+use Prim.Native.Nat.{ℕ}
+use lib.ListN.{drop}
+use lib.Ieee.{Float, le, ofBits, binary64}
+use Rattle.errors.specs.Answer.{Answer, result, refusal}
+use Rattle.curve2.specs.Entry.{sectionEntry}
+use Rattle.runs.specs.Run.{Move, ends, Out, under, never, whole}
+use Rattle.inscribed.specs.Store.{slots, circlesOf, badCircle, badStore, badStoreCount}
+use Rattle.inscribed.specs.declared.Inscribed.{Inscribed}
+use Rattle.refine.specs.Machine.{State, refining, advancing, over, circlesIn, End, finished, refineMove, measure}
+use Rattle.refine.specs.Report.{Report, reported, refusedOnEntry}
+
+-- 1e-6 and 1,000
+abbrev pub leastTol : Float
+leastTol = ofBits binary64 0x3eb0_c6f7_a0b5_ed8d
+
+abbrev pub mostTol : Float
+mostTol = ofBits binary64 0x408f_4000_0000_0000
+
+-- 3: "general tolerance outside 1e-6 to 1,000, ends allowed, NaN outside"
+abbrev pub badGeneral : Float → Bool
+badGeneral tol = not (le leastTol tol && le tol mostTol)
+
+-- "None waits: finished."
+unfoldable pub refineStep : List Float → Float → ℕ → State → Move State End
+unfolding refineMove
+refineStep ns tol slots (refining cs []) = ends finished
+refineStep ns tol slots (refining cs (b ∷ ws)) = refineMove ns tol slots cs b ws
+refineStep ns tol slots (advancing cs k) = ends finished
+refineStep ns tol slots (over cs n) = ends (refusal n)
+
+-- the run from a list and waiting circles on, with u units taken; `full` says where no further unit may be taken
+abbrev pub refineRun : List Float → Float → ℕ → (ℕ → Bool) → List Inscribed → List Inscribed → ℕ → Out State End
+refineRun ns tol slots full cs ws u = whole (refineStep ns tol slots) (measure slots) full (refining cs ws) u
+
+-- what is handed in: a section with its tolerance, a general tolerance, a store with its stated count, and the offered circle
+pub record Offer : Type 0 where
+  pub section : List Float
+  pub sectionTol : Float
+  pub tol : Float
+  pub store : List Float
+  pub count : ℕ
+  pub circle : Inscribed
+
+unfoldable pub refineEntry : Offer → Answer (Unit {0})
+refineEntry o =
+    sectionEntry (o .section) (o .sectionTol)
+    (record { number = badStore (o .store) (o .count) || badCircle (o .circle); tolerance = badGeneral (o .tol); room = badStoreCount (o .store) (o .count) })
+
+-- "The offered circle waits alone."
+abbrev pub offeredRun : Offer → (ℕ → Bool) → Out State End
+offeredRun o full = refineRun (o .section) (o .tol) (slots (o .store)) full (circlesOf (o .store) (o .count)) (o .circle ∷ []) 0
+
+-- "it makes the entry tests first, and a refusal there ends it with none accepted and 0 units"
+unfoldable pub afterEntry : Offer → (ℕ → Bool) → Answer (Unit {0}) → Report
+afterEntry o full (refusal n) = refusedOnEntry (o .store) (o .count) n
+afterEntry o full (result passed) = reported (o .store) (offeredRun o full)
+
+unfoldable pub refinement : Offer → (ℕ → Bool) → Report
+unfolding afterEntry
+refinement o full = afterEntry o full (refineEntry o)
+
+-- under a limit, and the plain run without one
+abbrev pub refineOf : Offer → ℕ → Report
+refineOf o limit = refinement o (under limit)
+
+abbrev pub plainRefinement : Offer → Report
+plainRefinement o = refinement o never
+
+-- the circles that it accepts, in its order
+unfoldable pub acceptedAfter : Offer → (ℕ → Bool) → Answer (Unit {0}) → List Inscribed
+acceptedAfter o full (refusal n) = []
+acceptedAfter o full (result passed) = drop (o .count) (circlesIn (offeredRun o full .state))
+
+abbrev pub accepted : Offer → (ℕ → Bool) → List Inscribed
+accepted o full = acceptedAfter o full (refineEntry o)
