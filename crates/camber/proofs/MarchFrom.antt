@@ -25,7 +25,7 @@ use Rattle.camber.specs.Outcome.{Outcome, ending, going, advanceOutcome,
 use Rattle.camber.specs.declared.advance.Advanced.{Advanced}
 use Rattle.camber.proofs.MarchLoop.{outcomeReport, advance-outcome, refined-fits, refined-units, refined-done, refined-on, refined-ends, refined-report}
 
-circles-of-stored : (cs : List Inscribed) (old : List Float) → circlesOf (stored cs old) (length cs) ≡ cs
+pub circles-of-stored : (cs : List Inscribed) (old : List Float) → circlesOf (stored cs old) (length cs) ≡ cs
 unfolding stored
 circles-of-stored cs old = circles-stored cs (drop (7 * length cs) old)
 

@@ -11,17 +11,17 @@ use lib.ListN.{length}
 use lib.Ieee.{Float, lt}
 use Rattle.errors.specs.Answer.{Answer, result, refusal}
 use Rattle.queries.specs.declared.Crossing.{Crossing}
-use Rattle.runs.specs.Run.{Move, ends, goes, pays}
+use Rattle.runs.specs.Run.{Move, ends, goes, pays, under, whole}
 use Rattle.runs.proofs.RunLaws.{Falls}
-use Rattle.runs.proofs.LimitLaws.{Grows}
+use Rattle.runs.proofs.LimitLaws.{Grows, run-holds, units-within}
 use Rattle.inscribed.specs.declared.Inscribed.{Inscribed}
 use Rattle.halving.specs.Trial.{trial}
 use Rattle.halving.specs.Halving.{fromCrossing}
 use Rattle.refine.specs.Machine.{State, refining, advancing, over, circlesIn, End, finished, lastOf, afterTrial, refineMove, measure}
 use Rattle.refine.specs.Refinement.{refineStep}
-use Rattle.refine.proofs.MachineLaws.{no-goes, no-pays, move-goes, move-pays, move-falls, Part, no-more, part-same, part-chain, move-part, Sound, move-sound}
+use Rattle.refine.proofs.MachineLaws.{no-goes, no-pays, move-goes, move-pays, move-falls, Part, no-more, part-same, part-chain, move-part, Sound, move-sound, Fits, refine-fits-goes, refine-fits-pays}
 use Rattle.camber.specs.Advance.{Ahead, done, along, lookAhead, stepOf, triedLine}
-use Rattle.camber.specs.March.{afterCircle, afterLine, advanceMove, marchStep}
+use Rattle.camber.specs.March.{afterCircle, afterLine, advanceMove, marchStep, marchRun}
 
 -- ---- what an advance leads to: the list stays as it is, and the measure falls
 
@@ -120,6 +120,33 @@ module _ (ns : List Float) (tol : Float) (n slots : ℕ) where
   march-sound-pays (advancing [] k) t p h = no-pays p
   march-sound-pays (advancing (c ∷ cs) k) t p h = same-sound ns tol n (advancing (c ∷ cs) k) t (advance-pays ns tol slots (c ∷ cs) (lastOf c cs) k (lookAhead ns (lastOf c cs)) t p .kept) h
   march-sound-pays (over cs m) t p h = no-pays p
+
+-- ---- the list keeps to the slots
+
+module _ (ns : List Float) (tol : Float) (slots : ℕ) where
+  march-fits-goes : (s t : State) → marchStep ns tol slots s ≡ goes t → Fits ns tol slots s → Fits ns tol slots t
+  unfolding marchStep refineStep
+  march-fits-goes (refining cs []) t p h = let e : t ≡ advancing cs 0 = cc in rw e h
+  march-fits-goes (refining cs (b ∷ ws)) t p h = refine-fits-goes ns tol slots (refining cs (b ∷ ws)) t p h
+  march-fits-goes (advancing [] k) t p h = no-goes p
+  march-fits-goes (advancing (c ∷ cs) k) t p h = advance-goes ns tol slots (c ∷ cs) (lastOf c cs) k (lookAhead ns (lastOf c cs)) t p
+  march-fits-goes (over cs m) t p h = no-goes p
+
+  march-fits-pays : (s t : State) → marchStep ns tol slots s ≡ pays t → Fits ns tol slots s → Fits ns tol slots t
+  unfolding marchStep refineStep
+  march-fits-pays (refining cs []) t p h = let z : _≡_ {A = ℕ} 0 1 = cc in absurd (omega arith)
+  march-fits-pays (refining cs (b ∷ ws)) t p h = refine-fits-pays ns tol slots (refining cs (b ∷ ws)) t p h
+  march-fits-pays (advancing [] k) t p h = no-pays p
+  march-fits-pays (advancing (c ∷ cs) k) t p h = rw (advance-pays ns tol slots (c ∷ cs) (lastOf c cs) k (lookAhead ns (lastOf c cs)) t p .kept) h
+  march-fits-pays (over cs m) t p h = no-pays p
+
+  pub march-fits : (full : ℕ → Bool) (s : State) (u : ℕ) → Fits ns tol slots s → length (circlesIn (marchRun ns tol slots full s u .state)) ≤ slots
+  unfolding whole
+  march-fits full s u h = run-holds (marchStep ns tol slots) full (Fits ns tol slots) march-fits-goes march-fits-pays (suc (measure slots s)) s u h
+
+  pub march-units : (limit : ℕ) (s : State) (u : ℕ) → u ≤ limit → marchRun ns tol slots (under limit) s u .units ≤ limit
+  unfolding whole
+  march-units limit s u h = units-within (marchStep ns tol slots) limit (suc (measure slots s)) s u h
 
 -- ---- while circles wait, a march is a refinement
 

@@ -81,7 +81,7 @@ fn entered(section: &[f64], section_tol: f64, tol: f64, line: Line2) -> Entry
 }
 
 // The circle of the start line's crossing: 8 where it has not exactly two hits.
-fn first_circle(section: &[f64], tol: f64, line: Line2) -> InscribedAnswer
+pub fn first_circle(section: &[f64], tol: f64, line: Line2) -> InscribedAnswer
     requires { ⌜ HasPoints (now section) ⌝ }
     ensures { λ r. ⌜ listedInscribed r ≡ firstCircle (now (section .entry)) tol line ⌝ }
 {
@@ -93,7 +93,7 @@ fn first_circle(section: &[f64], tol: f64, line: Line2) -> InscribedAnswer
 }
 
 // Where a march starts: the entry tests, then the first circle.
-fn start(section: &[f64], section_tol: f64, tol: f64, line: Line2) -> InscribedAnswer
+pub fn start(section: &[f64], section_tol: f64, tol: f64, line: Line2) -> InscribedAnswer
     ensures { λ r. ⌜ listedInscribed r ≡ marchStart (now (section .entry)) «section_tol» tol line ⌝ }
 {
     match entered(section, section_tol, tol, line) {

@@ -31,7 +31,7 @@ pub struct Run {
 }
 
 // A run that ends in a refusal.
-fn refused(r: Refusal, count: usize, units: u32) -> Run
+pub fn refused(r: Refusal, count: usize, units: u32) -> Run
     ensures { λ x. ⌜ x ≡ record { end = RunEnd.Refused r; count = count; units = units } ⌝ }
 {
     let end = RunEnd::Refused(r);

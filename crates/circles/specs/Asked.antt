@@ -1,0 +1,35 @@
+-- Each call: "entry tests in number order", then its step. Assumes nothing.
+use mathlib.Core.Bool.{Bool, false, not, _||_}
+use mathlib.Core.List.{List}
+use mathlib.Core.Option.{Option, some, none}
+use lib.Ieee.{Float}
+use Rattle.errors.specs.Answer.{Answer, result, refusal, _>>=_}
+use Rattle.line2.specs.declared.Line2.{Line2}
+use Rattle.curve2.specs.Entry.{sectionEntry}
+use Rattle.sections.specs.Asked.{finiteLine}
+use Rattle.inscribed.specs.Store.{badCircle}
+use Rattle.inscribed.specs.declared.Inscribed.{Inscribed}
+use Rattle.halving.specs.Halving.{fromCrossing}
+use Rattle.halving.specs.Trial.{tryInscribed, trial}
+use Rattle.refine.specs.Refinement.{badGeneral}
+
+-- with whether a number of the other arguments is bad
+unfoldable pub circleEntry : List Float → Float → Float → Bool → Answer (Unit {0})
+circleEntry ns sectionTol tol bad = sectionEntry ns sectionTol (record { number = bad; tolerance = badGeneral tol; room = false })
+
+-- `inscribed_from_crossing`: the line is taken as a crossing
+unfoldable pub fromCrossingAsked : List Float → Float → Float → Line2 → Answer Inscribed
+fromCrossingAsked ns sectionTol tol l = circleEntry ns sectionTol tol (not (finiteLine l)) >>= λ passed. fromCrossing ns tol (record { line = l })
+
+-- 8: "a line asked for directly .. has not exactly two hits"
+abbrev pub orNoCircle : Option Inscribed → Answer Inscribed
+orNoCircle none = refusal 8
+orNoCircle (some c) = result c
+
+-- `try_inscribed`
+unfoldable pub tryAsked : List Float → Float → Float → Line2 → Answer Inscribed
+tryAsked ns sectionTol tol l = circleEntry ns sectionTol tol (not (finiteLine l)) >>= λ passed. tryInscribed ns tol l >>= orNoCircle
+
+-- `inscribed_refined` of a, the earlier, and b
+unfoldable pub trialAsked : List Float → Float → Float → Inscribed → Inscribed → Answer (Option Inscribed)
+trialAsked ns sectionTol tol a b = circleEntry ns sectionTol tol (badCircle a || badCircle b) >>= λ passed. trial ns tol a b

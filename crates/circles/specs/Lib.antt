@@ -1,0 +1,2 @@
+-- What is asked of a section with a general tolerance: one circle, or the trial between two.
+pub mod Asked

@@ -1,0 +1,90 @@
+// What is asked of a section with a general tolerance. Each function makes the entry tests, and then its step.
+use curve2::AlsoBad;
+use curve2::Entry;
+use errors::Refusal;
+use halving::trial::TriedAnswer;
+use inscribed::Inscribed;
+use inscribed::InscribedAnswer;
+use line2::Line2;
+use queries::Crossing;
+ghost use mathlib.Core.Path.{_≡_};
+ghost use mathlib.Core.Bool.{_||_};
+ghost use Rattle.curve2.specs.Entry.{listedEntry};
+ghost use Rattle.inscribed.specs.Circles.{listedInscribed};
+ghost use Rattle.inscribed.specs.Store.{badCircle};
+ghost use Rattle.halving.specs.Tried.{listedTried};
+ghost use Rattle.circles.specs.Asked.{circleEntry, fromCrossingAsked, tryAsked, trialAsked};
+
+// The entry tests, with whether a number of the other arguments is bad.
+fn entered(section: &[f64], section_tol: f64, tol: f64, number: bool) -> Entry
+    ensures { λ r. ⌜ listedEntry r ≡ circleEntry (now (section .entry)) «section_tol» tol number ⌝ }
+{
+    let tolerance = refine::is_bad_general(tol);
+    let also = AlsoBad {
+        number,
+        tolerance,
+        room: false,
+    };
+    curve2::section_entry(section, section_tol, also)
+}
+
+// Whether a number of either circle is bad.
+fn is_bad_pair(a: Inscribed, b: Inscribed) -> bool
+    ensures { λ r. ⌜ r ≡ (badCircle a || badCircle b) ⌝ }
+{
+    if inscribed::store::is_bad_circle(a) {
+        return true;
+    }
+    inscribed::store::is_bad_circle(b)
+}
+
+// The circle of a line that is taken as a crossing: 10 where it is too long to be halved.
+pub fn inscribed_from_crossing(
+    section: &[f64],
+    section_tol: f64,
+    tol: f64,
+    line: Line2,
+) -> InscribedAnswer
+    ensures { λ r. ⌜ listedInscribed r ≡ fromCrossingAsked (now (section .entry)) «section_tol» tol line ⌝ }
+{
+    let good = sections::is_finite_line(line);
+    match entered(section, section_tol, tol, !good) {
+        Entry::Passed => {
+            let crossing = Crossing { line };
+            halving::from_crossing(section, tol, crossing)
+        }
+        Entry::Refused(r) => InscribedAnswer::Refused(r),
+    }
+}
+
+// The circle on a line: 8 where the line has not exactly two hits.
+pub fn try_inscribed(section: &[f64], section_tol: f64, tol: f64, line: Line2) -> InscribedAnswer
+    ensures { λ r. ⌜ listedInscribed r ≡ tryAsked (now (section .entry)) «section_tol» tol line ⌝ }
+{
+    let good = sections::is_finite_line(line);
+    match entered(section, section_tol, tol, !good) {
+        Entry::Passed => match halving::trial::try_inscribed(section, tol, line) {
+            TriedAnswer::Value(c) => InscribedAnswer::Value(c),
+            TriedAnswer::Nothing => InscribedAnswer::Refused(Refusal::NoCrossing),
+            TriedAnswer::Refused(r) => InscribedAnswer::Refused(r),
+        },
+        Entry::Refused(r) => InscribedAnswer::Refused(r),
+    }
+}
+
+// The trial between two circles, a the earlier: the circle to add, if any.
+pub fn inscribed_refined(
+    section: &[f64],
+    section_tol: f64,
+    tol: f64,
+    a: Inscribed,
+    b: Inscribed,
+) -> TriedAnswer
+    ensures { λ r. ⌜ listedTried r ≡ trialAsked (now (section .entry)) «section_tol» tol a b ⌝ }
+{
+    let number = is_bad_pair(a, b);
+    match entered(section, section_tol, tol, number) {
+        Entry::Passed => halving::trial::inscribed_refined(section, tol, a, b),
+        Entry::Refused(r) => TriedAnswer::Refused(r),
+    }
+}

@@ -1,0 +1,2 @@
+-- Extraction: a march in each direction from a reference line.
+pub mod Extraction

@@ -1,0 +1,145 @@
+-- Circles that change places from both ends inwards. Assumes nothing.
+use mathlib.Core.Path.{_≡_, refl, sym, ap, _∙_}
+use mathlib.Core.List.{List, [], _∷_, _++_, map, reverse, map-append, append-assoc, append-nil, reverse-cons, reverse-append}
+use Prim.Native.Nat.{ℕ, zero, suc, _+_, _-_, _*_, _≤_, _<_}
+use native.Mathlib.Omega.{arith}
+use lib.ListN.{length, length-append, take, drop}
+use lib.Seq.{take-at, drop-append-add, getD-append-seam}
+use lib.Ieee.{Float, nan}
+use Rattle.inscribed.specs.Circles.{reversedPoints}
+use Rattle.inscribed.specs.Store.{circleAt, circlesOf, allNumbers, numbersOf, stored}
+use Rattle.inscribed.specs.Parts.{withCircle}
+use Rattle.inscribed.specs.declared.Inscribed.{Inscribed}
+use Rattle.inscribed.proofs.StoreLaws.{length-all, length-circles, circle-of-stored, stored-again}
+use Rattle.turning.specs.Turned.{turned}
+
+-- ---- lists
+
+-- both ends change places
+turned-ends : (a : Inscribed) (cs : List Inscribed) (b : Inscribed) → turned (a ∷ (cs ++ (b ∷ []))) ≡ reversedPoints b ∷ (turned cs ++ (reversedPoints a ∷ []))
+unfolding turned
+turned-ends a cs b =
+    reverse-cons (reversedPoints a) (map reversedPoints (cs ++ (b ∷ [])))
+    ∙ ap (λ (l : List Inscribed). reverse l ++ (reversedPoints a ∷ [])) (map-append reversedPoints cs (b ∷ []))
+    ∙ ap (λ (l : List Inscribed). l ++ (reversedPoints a ∷ [])) (reverse-append (map reversedPoints cs) (reversedPoints b ∷ []))
+
+record Snoc (l : List Inscribed) : Type 0 where
+  before : List Inscribed
+  end : Inscribed
+  is : l ≡ before ++ (end ∷ [])
+
+snoc-of : (x : Inscribed) (xs : List Inscribed) → Snoc (x ∷ xs)
+snoc-of x [] = record { before = []; end = x; is = refl }
+snoc-of x (y ∷ ys) = let s = snoc-of y ys in record { before = x ∷ s .before; end = s .end; is = ap (λ (l : List Inscribed). x ∷ l) (s .is) }
+
+-- ---- one circle in the middle of a store
+
+all-append : (xs ys : List Inscribed) → allNumbers (xs ++ ys) ≡ allNumbers xs ++ allNumbers ys
+unfolding allNumbers
+all-append [] ys = refl
+all-append (x ∷ xs) ys = ap (λ (l : List Float). numbersOf x ++ l) (all-append xs ys) ∙ sym (append-assoc (numbersOf x) (allNumbers xs) (allNumbers ys))
+
+put-among : (xs : List Inscribed) (x c : Inscribed) (ys : List Inscribed) (rest : List Float)
+    → take (length xs * 7) (allNumbers xs ++ (allNumbers (x ∷ ys) ++ rest)) ++ numbersOf c ++ drop (length xs * 7 + 7) (allNumbers xs ++ (allNumbers (x ∷ ys) ++ rest))
+    ≡ allNumbers xs ++ (allNumbers (c ∷ ys) ++ rest)
+unfolding allNumbers numbersOf
+put-among xs x c ys rest =
+    let w : length xs * 7 + 7 ≡ length (allNumbers xs) + 7 = omega (arith, length-all xs) in
+    rw (take-at (allNumbers xs) (allNumbers (x ∷ ys) ++ rest) (length xs * 7) (omega (arith, length-all xs)), w, drop-append-add (allNumbers xs) (allNumbers (x ∷ ys) ++ rest) 7)
+    (append-assoc (allNumbers xs) (numbersOf c) (allNumbers ys ++ rest))
+
+put-stored : (xs : List Inscribed) (x c : Inscribed) (ys : List Inscribed) (old : List Float) → withCircle (stored (xs ++ x ∷ ys) old) (length xs) c ≡ stored (xs ++ c ∷ ys) old
+unfolding withCircle stored
+put-stored xs x c ys old =
+    let same : 7 * length (xs ++ c ∷ ys) ≡ 7 * length (xs ++ x ∷ ys) = omega (arith, length-append xs (c ∷ ys), length-append xs (x ∷ ys)) in
+    let rest = drop (7 * length (xs ++ x ∷ ys)) old in
+    rw (same, all-append xs (x ∷ ys), all-append xs (c ∷ ys), append-assoc (allNumbers xs) (allNumbers (x ∷ ys)) rest, append-assoc (allNumbers xs) (allNumbers (c ∷ ys)) rest)
+    (put-among xs x c ys rest)
+
+get-stored : (xs : List Inscribed) (x : Inscribed) (ys : List Inscribed) (old : List Float) → circleAt (stored (xs ++ x ∷ ys) old) (length xs) ≡ x
+get-stored xs x ys old = circle-of-stored (xs ++ x ∷ ys) old (length xs) x (omega (arith, length-append xs (x ∷ ys))) ∙ getD-append-seam xs x ys x
+
+-- ---- the states of the loop: the circles between i and j are still to be turned
+
+pub record Turning (old : List Float) (whole : List Inscribed) (store : List Float) (i j : ℕ) : Type 0 where
+  pub front : List Inscribed
+  pub middle : List Inscribed
+  pub back : List Inscribed
+  pub front-long : length front ≡ i
+  pub middle-long : length middle ≡ j - i
+  pub holds : store ≡ stored (front ++ (middle ++ back)) old
+  pub left : front ++ (turned middle ++ back) ≡ whole
+
+pub turn-start : (old : List Float) (n : ℕ) → n * 7 ≤ length old → Turning old (turned (circlesOf old n)) old 0 n
+turn-start old n h = record {
+  front = [];
+  middle = circlesOf old n;
+  back = [];
+  front-long = refl;
+  middle-long = omega (arith, length-circles old 0 n);
+  holds = rw (append-nil (circlesOf old n)) (sym (stored-again old n (omega arith)));
+  left = append-nil (turned (circlesOf old n));
+}
+
+module _ (old : List Float) (whole : List Inscribed) (store : List Float) (i j : ℕ) where
+  pub turn-over : Turning old whole store i j → j ≤ i → store ≡ stored whole old
+  unfolding turned
+  turn-over t h = go (t .middle) (t .middle-long) (t .holds) (t .left)
+    where
+      go : (m : List Inscribed) → length m ≡ j - i → store ≡ stored (t .front ++ (m ++ t .back)) old → t .front ++ (turned m ++ t .back) ≡ whole → store ≡ stored whole old
+      go [] l s w = s ∙ ap (λ (x : List Inscribed). stored x old) w
+      go (x ∷ m) l s w = absurd (omega (arith, l))
+
+  abbrev swapped : List Float
+  swapped = withCircle (withCircle store i (reversedPoints (circleAt store (j - 1)))) (j - 1) (reversedPoints (circleAt store i))
+
+  module _ (front back : List Inscribed) (long : length front ≡ i) where
+    step-one : (a : Inscribed) → 1 ≡ j - i → store ≡ stored (front ++ (a ∷ back)) old → front ++ (turned (a ∷ []) ++ back) ≡ whole → Turning old whole swapped (i + 1) (j - 1)
+    unfolding turned
+    step-one a l s w =
+        let k : j - 1 ≡ length front = omega (arith, long) in
+        let at : circleAt store (length front) ≡ a = rw s (get-stored front a back old) in
+        let moved : swapped ≡ stored (front ++ (reversedPoints a ∷ back)) old =
+        rw (k, ← long, at, s, put-stored front a (reversedPoints a) back old) (put-stored front (reversedPoints a) (reversedPoints a) back old) in
+        record {
+          front = front ++ (reversedPoints a ∷ []);
+          middle = [];
+          back = back;
+          front-long = omega (arith, length-append front (reversedPoints a ∷ []), long);
+          middle-long = omega arith;
+          holds = moved ∙ ap (λ (x : List Inscribed). stored x old) (sym (append-assoc front (reversedPoints a ∷ []) back));
+          left = append-assoc front (reversedPoints a ∷ []) back ∙ w;
+        }
+
+    step-two : (a : Inscribed) (cs : List Inscribed) (b : Inscribed) → suc (suc (length cs)) ≡ j - i → store ≡ stored (front ++ (a ∷ (cs ++ (b ∷ [])) ++ back)) old → front ++ (turned (a ∷ (cs ++ (b ∷ []))) ++ back) ≡ whole
+        → Turning old whole swapped (i + 1) (j - 1)
+    step-two a cs b l s w =
+        let ra = reversedPoints a in
+        let rb = reversedPoints b in
+        let k : j - 1 ≡ length (front ++ (rb ∷ cs)) = omega (arith, long, length-append front (rb ∷ cs)) in
+        let k' : j - 1 ≡ length (front ++ (a ∷ cs)) = omega (arith, long, length-append front (a ∷ cs)) in
+        let inner : (x : Inscribed) → front ++ (x ∷ (cs ++ (b ∷ [])) ++ back) ≡ (front ++ (x ∷ cs)) ++ (b ∷ back) = λ x. ap (λ (y : List Inscribed). front ++ (x ∷ y)) (append-assoc cs (b ∷ []) back) ∙ sym (append-assoc front (x ∷ cs) (b ∷ back)) in
+        let first : circleAt store i ≡ a = rw (s, ← long) (get-stored front a (cs ++ (b ∷ []) ++ back) old) in
+        let last : circleAt store (j - 1) ≡ b = rw (s, inner a, k') (get-stored (front ++ (a ∷ cs)) b back old) in
+        let put-first : withCircle store i rb ≡ stored ((front ++ (rb ∷ cs)) ++ (b ∷ back)) old = rw (s, ← long) (put-stored front a rb (cs ++ (b ∷ []) ++ back) old) ∙ ap (λ (x : List Inscribed). stored x old) (inner rb) in
+        let moved : swapped ≡ stored ((front ++ (rb ∷ cs)) ++ (ra ∷ back)) old = rw (first, last, put-first, k) (put-stored (front ++ (rb ∷ cs)) b ra back old) in
+        let again : (front ++ (rb ∷ cs)) ++ (ra ∷ back) ≡ (front ++ (rb ∷ [])) ++ (cs ++ (ra ∷ back)) = append-assoc front (rb ∷ cs) (ra ∷ back) ∙ sym (append-assoc front (rb ∷ []) (cs ++ (ra ∷ back))) in
+        record {
+          front = front ++ (rb ∷ []);
+          middle = cs;
+          back = ra ∷ back;
+          front-long = omega (arith, length-append front (rb ∷ []), long);
+          middle-long = omega (arith, l);
+          holds = moved ∙ ap (λ (x : List Inscribed). stored x old) again;
+          left = append-assoc front (rb ∷ []) (turned cs ++ (ra ∷ back)) ∙ ap (λ (y : List Inscribed). front ++ (rb ∷ y)) (sym (append-assoc (turned cs) (ra ∷ []) back)) ∙ ap (λ (y : List Inscribed). front ++ (y ++ back)) (sym (turned-ends a cs b)) ∙ w;
+        }
+
+  pub turn-step : Turning old whole store i j → i < j → Turning old whole swapped (i + 1) (j - 1)
+  turn-step t h = go (t .middle) (t .middle-long) (t .holds) (t .left)
+    where
+      go : (m : List Inscribed) → length m ≡ j - i → store ≡ stored (t .front ++ (m ++ t .back)) old → t .front ++ (turned m ++ t .back) ≡ whole → Turning old whole swapped (i + 1) (j - 1)
+      go [] l s w = absurd (omega (arith, l))
+      go (a ∷ []) l s w = step-one (t .front) (t .back) (t .front-long) a l s w
+      go (a ∷ (x ∷ xs)) l s w =
+          let e = snoc-of x xs in
+          step-two (t .front) (t .back) (t .front-long) a (e .before) (e .end) (omega (arith, l, ap length (e .is), length-append (e .before) (e .end ∷ []))) (rw (← (e .is)) s) (rw (← (e .is)) w)

@@ -1,0 +1,2 @@
+-- A list of circles turned round: `reverse_order`.
+pub mod Turned
