@@ -8,10 +8,10 @@ use Rattle.errors.specs.Answer.{Answer, result, refusal}
 use Rattle.root.specs.Whole.{rootDigits, wholeRoot}
 use Rattle.root.specs.Sqrt.{rootOfUnits, sqrtOf}
 use Rattle.root.specs.Asked.{rootAsked}
-use Rattle.points.specs.Points.{dotOf, normOf, difference, normalized}
+use Rattle.points.specs.Points.{dotOf, normOf, distOf, difference, normalized}
 use Rattle.points.specs.declared.Point2.{Point2}
 use Rattle.points.specs.declared.Vector2.{Vector2}
-use Rattle.line2.specs.Lines.{lineOf, lineThrough, atParam}
+use Rattle.line2.specs.Lines.{lineOf, lineThrough, atParam, lineProjection}
 use Rattle.line2.specs.Intersection.{intersectionParam}
 use Rattle.line2.specs.declared.Line2.{Line2}
 use Rattle.curve2.specs.Section.{point, pointsOf, plainDist, isClosed, wholeFrom}
@@ -21,9 +21,13 @@ use Rattle.queries.specs.Edges.{edgesOf}
 use Rattle.queries.specs.Hits.{edgeHit, hitsFrom, inserted, sortedInto, droppedAfter, dropped}
 use Rattle.queries.specs.Crossing.{spanOf, spanned, crossed, crossingWith}
 use Rattle.queries.specs.declared.Crossing.{Crossing}
+use Rattle.queries.specs.Nearest.{closestOnAll, leastOf, leastOfAll, nearestOf}
+use Rattle.segment2.specs.Closest.{fractionOn, heldPoint, measuredTo, closestOnEdge}
 use Rattle.stations.specs.Stations.{edgeDirection, meanDirection, vertexDirection, atVertex, station}
 use Rattle.stations.specs.Along.{insideEdge, atLengthFrom, atLength}
 use Rattle.stations.specs.declared.CurveStation2.{CurveStation2}
+use Rattle.inscribed.specs.Circles.{inscribed}
+use Rattle.halving.specs.Halving.{halved, between, halving, fromLine, fromCrossing}
 use Rattle.sections.specs.Asked.{atLengthAsked, crossingAsked, joinedAsked}
 
 -- what the definitions give, and what the sum says
@@ -71,6 +75,9 @@ f25 = ofBits binary64 0x4039000000000000
 
 abbrev f0·001 : Float
 f0·001 = ofBits binary64 0x3f50624dd2f1a9fc
+
+abbrev f0·01 : Float
+f0·01 = ofBits binary64 0x3f847ae147ae147b
 
 -- ---- inputs
 
@@ -133,12 +140,18 @@ P6 =
     (crossingAsked R f0·001 (line f4 f1 f4 f1) ∷ joinedAsked R f0·001 (line f4 f1 f4 f1) ∷ [])
     (refusal 8 ∷ result (crossing f0 f0 f8 f2) ∷ [])
 
+-- P5's crossing, general tolerance 0.01: "11 halvings, centre (4, 1.00048828125), radius 0.99951171875, contacts (4,0), (4,2)"
+P7 : Row
+unfolding R line crossing
+P7 = row (fromCrossing R f0·01 (crossing f4 f0 f0 f2)) (result (inscribed (point f4 (ofBits binary64 0x3ff0020000000000)) (ofBits binary64 0x3feffc0000000000) (point f4 f0) (point f4 f2)))
+
 table : List Row
-unfolding P1 P2 P3 P4 P5 P6
-table = P1 ∷ P2 ∷ P3 ∷ P4 ∷ P5 ∷ P6 ∷ []
+unfolding P1 P2 P3 P4 P5 P6 P7
+table = P1 ∷ P2 ∷ P3 ∷ P4 ∷ P5 ∷ P6 ∷ P7 ∷ []
 
 rows-hold : Holds table
-unfolding table P1 P2 P3 P4 P5 P6 R four two line crossing vector sqrtOf rootOfUnits wholeRoot rootDigits units size span climb odd trailingZeros ofBits ofFields round neg sum add sub mul div lt eq le
+unfolding table P1 P2 P3 P4 P5 P6 P7 R four two line crossing vector sqrtOf rootOfUnits wholeRoot rootDigits units size span climb odd trailingZeros ofBits ofFields round neg sum add sub mul div lt eq le
     dotOf normOf difference normalized lineThrough atParam intersectionParam pointsOf plainDist isClosed wholeFrom badNumbers notSpacedFrom sectionEntry keptAfter kept lastOf endsMeet forcedClosed curveOf cleaned
     edgesOf edgeHit hitsFrom inserted sortedInto droppedAfter dropped spanOf spanned crossed crossingWith edgeDirection meanDirection vertexDirection atVertex insideEdge atLengthFrom atLength atLengthAsked crossingAsked joinedAsked
-rows-hold = (refl, (refl, (refl, (refl, (refl, (refl, tt))))))
+    closestOnAll leastOf leastOfAll nearestOf fractionOn heldPoint measuredTo closestOnEdge lineProjection distOf halved between halving fromLine
+rows-hold = (refl, (refl, (refl, (refl, (refl, (refl, (refl, tt)))))))
