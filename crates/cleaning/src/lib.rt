@@ -33,7 +33,7 @@ pub struct Kept {
 }
 
 // The point whose numbers start at i.
-pub fn point_at(points: &[f64], i: usize) -> Point2
+fn point_at(points: &[f64], i: usize) -> Point2
     requires { ⌜ i + 1 < length (now points) ⌝ }
     ensures { λ r. ⌜ r ≡ pointAt (now (points .entry)) i ⌝ }
 {
@@ -44,7 +44,7 @@ pub fn point_at(points: &[f64], i: usize) -> Point2
 }
 
 // The distance of two points of a section.
-pub fn distance(a: Point2, b: Point2) -> f64
+fn distance(a: Point2, b: Point2) -> f64
     ensures { λ r. ⌜ r ≡ plainDist a b ⌝ }
 {
     let ax = a.x;
@@ -55,7 +55,7 @@ pub fn distance(a: Point2, b: Point2) -> f64
 }
 
 // Whether the ends of a section are within the tolerance of each other.
-pub fn ends_meet(points: &[f64], tol: f64) -> bool
+fn ends_meet(points: &[f64], tol: f64) -> bool
     requires { ⌜ length (now points) % 2 ≡ 0 ⌝ }
     requires { ⌜ 2 ≤ length (now points) ⌝ }
     ensures { λ r. ⌜ r ≡ endsMeet tol (pointsOf (now (points .entry))) ⌝ }
@@ -67,7 +67,7 @@ pub fn ends_meet(points: &[f64], tol: f64) -> bool
 }
 
 // A point more in the output, behind the `count` that it holds.
-pub fn put(out: &mut [f64], count: usize, p: Point2) -> Kept
+fn put(out: &mut [f64], count: usize, p: Point2) -> Kept
     requires { ⌜ 2 * count + 2 ≤ length (now out) ⌝ }
     ensures { λ r. ⌜ (record { kept = r; output = now (out .exit) }) ≡ put count p (now (out .entry)) ⌝ }
 {
@@ -85,7 +85,7 @@ pub fn put(out: &mut [f64], count: usize, p: Point2) -> Kept
 }
 
 // The same for a point that is dropped if it is no farther than the tolerance from the last one held.
-pub fn keep(out: &mut [f64], k: Kept, p: Point2, tol: f64) -> Kept
+fn keep(out: &mut [f64], k: Kept, p: Point2, tol: f64) -> Kept
     requires { ⌜ 2 * k .count + 2 ≤ length (now out) ⌝ }
     ensures { λ r. ⌜ (record { kept = r; output = now (out .exit) }) ≡ keep tol (record { kept = k; output = now (out .entry) }) p ⌝ }
 {

@@ -18,7 +18,7 @@ ghost use Rattle.stations.specs.Stations.{lastVertex, listedStation};
 ghost use Rattle.stations.specs.Along.{insideEdge, atLengthFrom, atLength, lengthAlong};
 
 // The station at a length inside an edge, from p at length m to q at length n.
-pub fn inside_edge(index: usize, p: Point2, q: Point2, m: f64, n: f64, length: f64) -> StationAnswer
+fn inside_edge(index: usize, p: Point2, q: Point2, m: f64, n: f64, length: f64) -> StationAnswer
     ensures { λ r. ⌜ listedStation r ≡ insideEdge index p q m n length ⌝ }
 {
     let px = p.x;

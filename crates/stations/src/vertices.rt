@@ -45,7 +45,7 @@ pub fn edge_direction(section: &[f64], index: usize) -> VectorAnswer
 }
 
 // The direction between those of two edges.
-pub fn mean_direction(section: &[f64], i: usize, j: usize) -> VectorAnswer
+fn mean_direction(section: &[f64], i: usize, j: usize) -> VectorAnswer
     requires { ⌜ (i < lastVertex (now section)) × (j < lastVertex (now section)) ⌝ }
     ensures { λ r. ⌜ listedVector r ≡ meanDirection (now (section .entry)) i j ⌝ }
 {
@@ -81,7 +81,7 @@ fn end_direction(section: &[f64], tol: f64, own: usize) -> VectorAnswer
 }
 
 // The direction at a vertex.
-pub fn vertex_direction(section: &[f64], tol: f64, index: usize) -> VectorAnswer
+fn vertex_direction(section: &[f64], tol: f64, index: usize) -> VectorAnswer
     requires { ⌜ HasPoints (now section) × (index < length (now section) / 2) ⌝ }
     ensures { λ r. ⌜ listedVector r ≡ vertexDirection (now (section .entry)) tol index ⌝ }
 {
