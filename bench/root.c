@@ -1,5 +1,6 @@
 /* Nanoseconds a square root takes: the processor's instruction, the proved root, the digit-by-digit root.
-   All three sum the roots of the same numbers; the best of ten rounds counts. */
+   All three sum the roots of the same numbers; the best of twenty-five rounds counts. `root once` runs each once through `counted`,
+   for callgrind, and says in which order. */
 #include <math.h>
 #include <stdint.h>
 #include <stdio.h>
@@ -16,17 +17,24 @@ static double by_processor(const double *xs, size_t n) {
     return sum;
 }
 
+/* All that is timed goes through here, and callgrind counts what is done within. */
+__attribute__((noinline)) double counted(double (*roots)(const double *, size_t), const double *xs, size_t n) {
+    double sum = roots(xs, n);
+    __asm__ volatile("" ::: "memory");
+    return sum;
+}
+
 static double now(void) {
     struct timespec t;
     clock_gettime(CLOCK_MONOTONIC, &t);
     return t.tv_sec * 1e9 + t.tv_nsec;
 }
 
-static double best(double (*roots)(const double *, size_t), const double *xs, size_t n, double *sum) {
+static double best(double (*roots)(const double *, size_t), const double *xs, size_t n, int rounds, double *sum) {
     double least = 1e18;
-    for (int round = 0; round < 10; round++) {
+    for (int round = 0; round < rounds; round++) {
         double start = now();
-        *sum = roots(xs, n);
+        *sum = counted(roots, xs, n);
         double ns = (now() - start) / n;
         if (ns < least)
             least = ns;
@@ -37,7 +45,9 @@ static double best(double (*roots)(const double *, size_t), const double *xs, si
 #define N 65536
 static double xs[N];
 
-int main(void) {
+int main(int argc, char **argv) {
+    int once = argc > 1 && strcmp(argv[1], "once") == 0;
+    int rounds = once ? 1 : 25;
     uint64_t x = 0x9e3779b97f4a7c15u;
     for (int i = 0; i < N; i++) {
         x ^= x << 13;
@@ -48,12 +58,16 @@ int main(void) {
         memcpy(&xs[i], &bits, 8);
     }
     double a, b, c;
-    double processor = best(by_processor, xs, N, &a);
-    double proved = best(bench_roots, xs, N, &b);
-    double digits = best(bench_roots_by_digits, xs, N, &c);
+    double proved = best(bench_roots, xs, N, rounds, &a);
+    double digits = best(bench_roots_by_digits, xs, N, rounds, &b);
+    double processor = best(by_processor, xs, N, rounds, &c);
     if (a != b || a != c) {
         printf("the sums differ\n");
         return 1;
+    }
+    if (once) {
+        printf("root - - root %d 3\n", N);
+        return 0;
     }
     printf("square root, ns each over %d numbers\n", N);
     printf("  processor        %6.2f\n", processor);

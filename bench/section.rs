@@ -1,17 +1,39 @@
-// Nanoseconds an edge takes for the nearest point and for a crossing: the proved functions beside plain Rust of the same
-// steps (which watches no value). Both get the same sections and questions, one after the other in one run; the best of 15 rounds counts.
+// The proved functions beside engeom's published ones (where they were cut, `--cfg published`) and beside plain Rust of the same steps, which watches no value.
+// All get the same sections and questions, in turn, round after round in one run, and must give the same bits; the least time counts. Stores are cleared, and the
+// circles of an edge fit put back, before each round and outside the time. The proved runs make their entry tests within it.
+// `section` prints times; `section once` runs everything once through `counted`, for callgrind, and says in which order.
+mod plain;
+#[cfg(published)]
+mod published;
+use plain::{Circle, Line};
+#[cfg(published)]
+use published::{Curve2, CurveStation2, dist};
 use std::time::Instant;
 
-extern "C" {
+// The tolerances of crates/bench.
+#[cfg(published)]
+const T: f64 = 0.000001;
+const G: f64 = 0.01;
+const SLOTS: usize = 1024;
+// A row is run this often at least, and for this long at least.
+const ROUNDS: usize = 25;
+const SECONDS: f64 = 0.6;
+
+unsafe extern "C" {
     fn bench_nearest(section: *const f64, n: usize, ps: *const f64, k: usize) -> f64;
     fn bench_crossings(section: *const f64, n: usize, lines: *const f64, k: usize) -> f64;
+    fn bench_march(section: *const f64, n: usize, line: *const f64, k: usize, store: *mut f64, m: usize) -> u32;
+    fn bench_extraction(section: *const f64, n: usize, line: *const f64, k: usize, store: *mut f64, m: usize) -> u32;
+    fn bench_open_edge(section: *const f64, n: usize, count: usize, at_front: u64, store: *mut f64, m: usize, out: *mut f64, k: usize) -> u32;
 }
 
-// A closed blade-like section: an ellipse of chord 100 and thickness 12 on a parabola.
-fn blade(edges: usize) -> Vec<f64> {
+// A blade-like section: an ellipse of chord 100 and thickness 12 on a parabola, closed at its tip or open there.
+fn blade(edges: usize, open: bool) -> Vec<f64> {
+    let gap = if open { 0.2 } else { 0.0 };
     let mut out = Vec::new();
     for i in 0..=edges {
-        let a = (i % edges) as f64 / edges as f64 * std::f64::consts::TAU;
+        let k = if open { i } else { i % edges };
+        let a = gap + k as f64 / edges as f64 * (std::f64::consts::TAU - 2.0 * gap);
         let x = 50.0 * a.cos();
         out.push(x);
         out.push(6.0 * a.sin() + 8.0 * (1.0 - x * x / 2500.0));
@@ -19,106 +41,274 @@ fn blade(edges: usize) -> Vec<f64> {
     out
 }
 
+// ---- what a program answers, and how long it takes
+
+// The numbers that an answer leaves, and the units of a run.
+struct Left {
+    numbers: Vec<f64>,
+    units: u32,
+}
+
+impl Left {
+    fn same(&self, other: &Left) -> bool {
+        self.units == other.units && self.numbers.len() == other.numbers.len() && self.numbers.iter().zip(&other.numbers).all(|(x, y)| x.to_bits() == y.to_bits())
+    }
+}
+
+// All that is timed goes through here, and callgrind counts what is done within.
+#[unsafe(no_mangle)]
 #[inline(never)]
-fn plain_nearest(section: &[f64], ps: &[f64]) -> f64 {
-    let mut sum = 0.0;
-    for p in ps.chunks_exact(2) {
-        sum += nearest(section, p[0], p[1]);
-    }
-    sum
+fn counted(f: &mut dyn FnMut()) {
+    f();
+    std::hint::black_box(());
 }
 
-fn nearest(section: &[f64], px: f64, py: f64) -> f64 {
-    let mut best = (0usize, 0.0f64, 0.0f64, 0.0f64, f64::INFINITY);
-    for i in 0..section.len() / 2 - 1 {
-        let (ax, ay, bx, by) = (section[2 * i], section[2 * i + 1], section[2 * i + 2], section[2 * i + 3]);
-        let (dx, dy) = (bx - ax, by - ay);
-        let s = ((px - ax) * dx + (py - ay) * dy) / (dx * dx + dy * dy);
-        let (qx, qy, f) = if s <= 0.0 {
-            (ax, ay, 0.0)
-        } else if s >= 1.0 {
-            (bx, by, 1.0)
-        } else {
-            (ax + dx * s, ay + dy * s, s)
-        };
-        let square = (px - qx) * (px - qx) + (py - qy) * (py - qy);
-        if square < best.4 {
-            best = (i, qx, qy, f, square);
-        }
-    }
-    std::hint::black_box(best).4
+fn timed<T>(f: impl FnOnce() -> T) -> (f64, T) {
+    let mut f = Some(f);
+    let mut answer = None;
+    let start = Instant::now();
+    counted(&mut || answer = Some((f.take().unwrap())()));
+    (start.elapsed().as_nanos() as f64, answer.unwrap())
 }
 
-#[inline(never)]
-fn plain_crossings(section: &[f64], lines: &[f64]) -> f64 {
-    let mut sum = 0.0;
-    for l in lines.chunks_exact(4) {
-        sum += crossing(section, l[0], l[1], l[2], l[3]);
-    }
-    sum
+// One program's run of a row, which makes ready first: its time and what it leaves.
+type Column<'a> = Box<dyn FnMut() -> (f64, Left) + 'a>;
+
+// What a time is given for: one of so many edges passed over, one of a run's units, or a whole fit, whose probes take no unit.
+enum Per {
+    Edge(usize),
+    Unit,
+    Fit,
 }
 
-fn crossing(section: &[f64], ox: f64, oy: f64, dx: f64, dy: f64) -> f64 {
-    let mut hits = [0.0; 2];
-    let mut n = 0;
-    for i in 0..section.len() / 2 - 1 {
-        let (ax, ay, bx, by) = (section[2 * i], section[2 * i + 1], section[2 * i + 2], section[2 * i + 3]);
-        let (ex, ey) = (bx - ax, by - ay);
-        let det = ex * dy - ey * dx;
-        if det.abs() < 1e-12 {
-            continue;
-        }
-        let (wx, wy) = (ax - ox, ay - oy);
-        let t = (wy * ex - wx * ey) / det;
-        let s = (wy * dx - wx * dy) / det;
-        if s >= 0.0 && s <= 1.0 {
-            if n < 2 {
-                hits[n] = t;
+struct Row<'a> {
+    name: &'a str,
+    shape: &'a str,
+    edges: usize,
+    per: Per,
+}
+
+// Runs a row's columns: the port, the published functions if they are there, plain Rust.
+fn run_row(row: Row, mut columns: Vec<Column>, once: bool) -> Left {
+    let mut least = vec![f64::INFINITY; columns.len()];
+    let mut first: Option<Left> = None;
+    let start = Instant::now();
+    let mut rounds = 0;
+    while rounds == 0 || !once && (rounds < ROUNDS || start.elapsed().as_secs_f64() < SECONDS) {
+        rounds += 1;
+        for (i, column) in columns.iter_mut().enumerate() {
+            let (time, left) = column();
+            least[i] = least[i].min(time);
+            match &first {
+                None => first = Some(left),
+                Some(wanted) => assert!(left.same(wanted), "{} {} {}: column {} differs", row.name, row.shape, row.edges, i),
             }
-            n += 1;
         }
     }
-    if n != 2 {
-        return 0.0;
+    let first = first.unwrap();
+    let (unit, per) = match row.per {
+        Per::Edge(passed) => ("edge", passed as f64),
+        Per::Unit => ("unit", first.units as f64),
+        Per::Fit => ("fit", 1.0),
+    };
+    let is_run = !matches!(row.per, Per::Edge(_));
+    assert!(!is_run || first.units > 0, "{} {} {}: no result", row.name, row.shape, row.edges);
+    if once {
+        println!("{} {} {} {} {} {}", row.name, row.shape, row.edges, unit, per, columns.len());
+        return first;
     }
-    let (t0, t1) = if hits[1] < hits[0] { (hits[1], hits[0]) } else { (hits[0], hits[1]) };
-    let (ax, ay) = (ox + dx * t0, oy + dy * t0);
-    let (bx, by) = (ox + dx * t1, oy + dy * t1);
-    (bx - ax) + (by - ay)
+    let units = if is_run { first.units.to_string() } else { String::new() };
+    let cells: String = least.iter().map(|x| format!("{:>13.2}", x / per)).collect();
+    let ratios: String = least[1..].iter().map(|x| format!("{:>13.2}", least[0] / x)).collect();
+    println!("{:<12}{:<8}{:>6}{:>7}  {:<4}{}{}", row.name, row.shape, row.edges, units, unit, cells, ratios);
+    first
 }
 
-fn best(mut f: impl FnMut() -> f64) -> (f64, f64) {
-    let mut least = f64::INFINITY;
-    let mut sum = 0.0;
-    for _ in 0..15 {
-        let start = Instant::now();
-        sum = f();
-        least = least.min(start.elapsed().as_nanos() as f64);
+// ---- passes over a section
+
+fn plain_nearest(section: &[f64], ps: &[f64]) -> f64 {
+    ps.chunks_exact(2).fold(0.0, |sum, p| sum + plain::nearest(section, p[0], p[1]).4)
+}
+
+fn plain_crossings(section: &[f64], lines: &[f64]) -> f64 {
+    lines.chunks_exact(4).fold(0.0, |sum, l| {
+        let k = plain::crossing(section, line_at(l));
+        sum + k.map_or(0.0, |k| k.dx + k.dy)
+    })
+}
+
+fn line_at(l: &[f64]) -> Line {
+    Line { ox: l[0], oy: l[1], dx: l[2], dy: l[3] }
+}
+
+fn port_nearest(section: &[f64], ps: &[f64]) -> f64 {
+    unsafe { bench_nearest(section.as_ptr(), section.len(), ps.as_ptr(), ps.len()) }
+}
+
+fn port_crossings(section: &[f64], lines: &[f64]) -> f64 {
+    unsafe { bench_crossings(section.as_ptr(), section.len(), lines.as_ptr(), lines.len()) }
+}
+
+// Every question alone first, compared by bits, then all of them for the time.
+fn pass<'a>(row: Row<'a>, asked: &[f64], each: usize, answers: &[&dyn Fn(&[f64]) -> f64], once: bool) {
+    for q in asked.chunks_exact(each) {
+        let wanted = answers[0](q).to_bits();
+        assert!(answers.iter().all(|f| f(q).to_bits() == wanted), "{} {} {}: {:?} differs", row.name, row.shape, row.edges, q);
     }
-    (least, sum)
+    let mut columns: Vec<Column> = Vec::new();
+    for f in answers {
+        columns.push(Box::new(move || {
+            let (time, sum) = timed(|| f(asked));
+            (time, Left { numbers: vec![sum], units: 0 })
+        }));
+    }
+    run_row(row, columns, once);
+}
+
+fn passes(edges: usize, open: bool, once: bool) {
+    let section = blade(edges, open);
+    let shape = shape_of(open);
+    let k = 200_000 / edges;
+    let (mut ps, mut lines) = (Vec::new(), Vec::new());
+    for i in 0..k {
+        let x = -45.0 + 90.0 * i as f64 / k as f64;
+        let y = 8.0 * (1.0 - x * x / 2500.0);
+        ps.extend([x, y]);
+        lines.extend([x, y, 0.03, 1.0]);
+    }
+    let passed = k * edges;
+    let port = |ps: &[f64]| port_nearest(&section, ps);
+    let plain = |ps: &[f64]| plain_nearest(&section, ps);
+    #[cfg(published)]
+    let curve = published::curve(&section, T);
+    #[cfg(published)]
+    let rust = |ps: &[f64]| published::nearest(&curve, ps);
+    let answers: &[&dyn Fn(&[f64]) -> f64] = &[
+        &port,
+        #[cfg(published)]
+        &rust,
+        &plain,
+    ];
+    pass(Row { name: "nearest", shape, edges, per: Per::Edge(passed) }, &ps, 2, answers, once);
+    let port = |lines: &[f64]| port_crossings(&section, lines);
+    let plain = |lines: &[f64]| plain_crossings(&section, lines);
+    #[cfg(published)]
+    let rust = |lines: &[f64]| published::crossings(&curve, G, lines);
+    let answers: &[&dyn Fn(&[f64]) -> f64] = &[
+        &port,
+        #[cfg(published)]
+        &rust,
+        &plain,
+    ];
+    pass(Row { name: "crossing", shape, edges, per: Per::Edge(passed) }, &lines, 4, answers, once);
+}
+
+fn shape_of(open: bool) -> &'static str {
+    if open { "open" } else { "closed" }
+}
+
+// ---- runs
+
+// A store with circles in its first slots, and NaN behind them.
+fn store_of(circles: impl Iterator<Item = [f64; 7]>) -> Vec<f64> {
+    let mut store: Vec<f64> = circles.flatten().collect();
+    store.resize(7 * SLOTS, f64::NAN);
+    store
+}
+
+fn plain_numbers(c: &Circle) -> [f64; 7] {
+    [c.x, c.y, c.r, c.p0.0, c.p0.1, c.p1.0, c.p1.1]
+}
+
+fn plain_circle(n: &[f64]) -> Circle {
+    Circle { x: n[0], y: n[1], r: n[2], p0: (n[3], n[4]), p1: (n[5], n[6]) }
+}
+
+// A march, or an extraction where it is whole.
+fn run(edges: usize, open: bool, whole: bool, once: bool) -> Left {
+    let section = &blade(edges, open)[..];
+    let line = [1.0, 8.0, 0.03, 1.0];
+    #[cfg(published)]
+    let curve = &published::curve(section, T);
+    let columns: Vec<Column> = vec![
+        Box::new(move || {
+            let mut store = store_of(std::iter::empty());
+            let proved = if whole { bench_extraction } else { bench_march };
+            let (time, units) = timed(|| unsafe { proved(section.as_ptr(), section.len(), line.as_ptr(), 4, store.as_mut_ptr(), store.len()) });
+            (time, Left { numbers: store, units })
+        }),
+        #[cfg(published)]
+        Box::new(move || {
+            let (time, (list, units)) = timed(|| if whole { published::extraction(curve, G, &line) } else { published::march(curve, G, &line) });
+            (time, Left { numbers: store_of(list.iter().map(published::circle_numbers)), units })
+        }),
+        Box::new(move || {
+            let mut units = 0;
+            let (time, list) = timed(|| match whole {
+                true => plain::extraction(section, G, line_at(&line), SLOTS, u32::MAX, &mut units),
+                false => plain::march(section, G, line_at(&line), SLOTS, u32::MAX, &mut units).0,
+            });
+            (time, Left { numbers: store_of(list.iter().map(plain_numbers)), units })
+        }),
+    ];
+    run_row(Row { name: if whole { "extraction" } else { "march" }, shape: shape_of(open), edges, per: Per::Unit }, columns, once)
+}
+
+// The open edge, at the front where the open blade has its gap, from the circles of an extraction. The numbers are those of the store and the point.
+fn edge(edges: usize, extracted: &Left, once: bool) {
+    let section = &blade(edges, true)[..];
+    let store = &extracted.numbers[..];
+    let count = store.iter().filter(|x| !x.is_nan()).count() / 7;
+    let circles = move || store.chunks_exact(7).take(count);
+    #[cfg(published)]
+    let curve = &published::curve(section, T);
+    let columns: Vec<Column> = vec![
+        Box::new(move || {
+            let (mut store, mut out) = (store.to_vec(), [f64::NAN; 2]);
+            let (time, units) = timed(|| unsafe {
+                bench_open_edge(section.as_ptr(), section.len(), count, 1, store.as_mut_ptr(), store.len(), out.as_mut_ptr(), 2)
+            });
+            store.extend(out);
+            (time, Left { numbers: store, units })
+        }),
+        #[cfg(published)]
+        Box::new(move || {
+            let list: Vec<_> = circles().map(published::circle_at).collect();
+            let (time, (list, units, point)) = timed(|| published::open_edge(curve, G, list, true));
+            let mut numbers = store_of(list.iter().map(published::circle_numbers));
+            numbers.extend(point);
+            (time, Left { numbers, units })
+        }),
+        Box::new(move || {
+            let mut list: Vec<_> = circles().map(plain_circle).collect();
+            let (time, (point, units)) = timed(|| plain::open_edge(section, G, &mut list, true, SLOTS, u32::MAX));
+            let mut numbers = store_of(list.iter().map(plain_numbers));
+            numbers.extend([point.0, point.1]);
+            (time, Left { numbers, units })
+        }),
+    ];
+    run_row(Row { name: "open-edge", shape: "open", edges, per: Per::Fit }, columns, once);
 }
 
 fn main() {
-    println!("{:<10}{:>7}{:>12}{:>12}{:>8}", "", "edges", "plain ns", "proved ns", "ratio");
+    let once = std::env::args().nth(1).is_some_and(|x| x == "once");
+    let published: &[&str] = if cfg!(published) { &["published"] } else { &[] };
+    if !once {
+        let names: String = [&["port"], published, &["plain"]].concat().iter().map(|x| format!("{x:>13}")).collect();
+        let beside: String = [published, &["plain"]].concat().iter().map(|x| format!("{:>13}", format!("/{x}"))).collect();
+        println!("\nns an edge, a unit or a fit, least of {ROUNDS} rounds or more, stores cleared before each; the ratios are the port's time by the others'");
+        println!("{:<12}{:<8}{:>6}{:>7}  {:<4}{}{}", "", "", "edges", "units", "per", names, beside);
+    }
     for edges in [100usize, 1000, 4095] {
-        let section = blade(edges);
-        let k = 200_000 / edges;
-        let mut ps = Vec::new();
-        let mut lines = Vec::new();
-        for i in 0..k {
-            let x = -45.0 + 90.0 * i as f64 / k as f64;
-            let y = 8.0 * (1.0 - x * x / 2500.0);
-            ps.extend([x, y]);
-            lines.extend([x, y, 0.03, 1.0]);
+        for open in [false, true] {
+            passes(edges, open, once);
         }
-        let per = (k * edges) as f64;
-        let (a, sa) = best(|| plain_nearest(&section, &ps));
-        let (b, sb) = best(|| unsafe { bench_nearest(section.as_ptr(), section.len(), ps.as_ptr(), ps.len()) });
-        assert_eq!(sa.to_bits(), sb.to_bits());
-        println!("{:<10}{:>7}{:>12.2}{:>12.2}{:>8.2}", "nearest", edges, a / per, b / per, b / a);
-        let (a, sa) = best(|| plain_crossings(&section, &lines));
-        let (b, sb) = best(|| unsafe { bench_crossings(section.as_ptr(), section.len(), lines.as_ptr(), lines.len()) });
-        assert_eq!(sa.to_bits(), sb.to_bits());
-        println!("{:<10}{:>7}{:>12.2}{:>12.2}{:>8.2}", "crossing", edges, a / per, b / per, b / a);
+    }
+    for edges in [100usize, 1000, 4095] {
+        run(edges, false, false, once);
+        run(edges, true, false, once);
+        run(edges, false, true, once);
+        let extracted = run(edges, true, true, once);
+        edge(edges, &extracted, once);
     }
 }

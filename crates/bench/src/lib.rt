@@ -4,6 +4,10 @@ use points::Point2;
 use points::Vector2;
 use queries::CrossingAnswer;
 use queries::NearestAnswer;
+use refine::Run;
+use refine::RunEnd;
+use rounds::EdgeEnd;
+use rounds::EdgeFit;
 ghost use Rattle.curve2.specs.Entry.{HasPoints};
 
 // The sum of the roots.
@@ -97,5 +101,82 @@ fn width_of(section: &[f64], line: Line2) -> f64
         }
         CrossingAnswer::Missed => 0.0,
         CrossingAnswer::Refused(_) => 0.0,
+    }
+}
+
+// A section tolerance and a general tolerance for marches and extractions.
+const T: f64 = 0.000001;
+
+const G: f64 = 0.01;
+
+// The line of the first four numbers; a shorter slice has none, and gives one that is not finite.
+fn line_of(numbers: &[f64]) -> Line2 {
+    let nan = 0.0 / 0.0;
+    if numbers.len() < 4 {
+        return Line2 {
+            origin: Point2 { x: nan, y: nan },
+            direction: Vector2 { x: nan, y: nan },
+        };
+    }
+    Line2 {
+        origin: Point2 {
+            x: numbers[0],
+            y: numbers[1],
+        },
+        direction: Vector2 {
+            x: numbers[2],
+            y: numbers[3],
+        },
+    }
+}
+
+// The units of a march that finishes; 0 for any other ending.
+#[no_mangle]
+pub extern "C" fn bench_march(section: &[f64], line: &[f64], store: &mut [f64]) -> u32 {
+    let run = camber::march::march(section, T, G, line_of(line), store, 4_294_967_295);
+    units_of(run)
+}
+
+// The same of an extraction.
+#[no_mangle]
+pub extern "C" fn bench_extraction(section: &[f64], line: &[f64], store: &mut [f64]) -> u32 {
+    let run = extraction::extract_circles(section, T, G, line_of(line), store, 4_294_967_295);
+    units_of(run)
+}
+
+fn units_of(run: Run) -> u32 {
+    let end = run.end;
+    match end {
+        RunEnd::Finished => run.units,
+        RunEnd::Spent => 0,
+        RunEnd::Refused(_) => 0,
+    }
+}
+
+// The units of a fit of the open edge that finds one, from the circles in use; 0 for any other ending. The point goes to the first two places of `out`.
+#[no_mangle]
+pub extern "C" fn bench_open_edge(
+    section: &[f64],
+    count: usize,
+    at_front: u64,
+    store: &mut [f64],
+    out: &mut [f64],
+) -> u32 {
+    let fit = edges::fit_open_edge(section, T, G, store, count, at_front != 0, 4_294_967_295);
+    fitted_units(fit, out)
+}
+
+fn fitted_units(fit: EdgeFit, out: &mut [f64]) -> u32 {
+    let end = fit.end;
+    match end {
+        EdgeEnd::Fitted(p) => {
+            if 1 < out.len() {
+                out[0] = p.x;
+                out[1] = p.y;
+            }
+            fit.units
+        }
+        EdgeEnd::Spent => 0,
+        EdgeEnd::Refused(_) => 0,
     }
 }

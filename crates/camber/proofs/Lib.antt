@@ -1,6 +1,5 @@
 -- Laws that belong to no one function.
 pub mod MarchMachine
 pub mod MarchLaw
-pub mod AdvanceLaws
 pub mod MarchLoop
 pub mod MarchFrom

@@ -1,33 +1,30 @@
 -- The states of a march's loop. Assumes nothing.
 use mathlib.Core.Path.{_≡_, refl, sym, ap, _∙_}
 use mathlib.Core.List.{List, [], _∷_}
-use Prim.Native.Nat.{ℕ, suc, _-_, _*_, _≤_, _<_}
+use Prim.Native.Nat.{ℕ, suc, _-_, _≤_, _<_}
 use native.Mathlib.Omega.{arith}
-use lib.ListN.{length, drop}
+use lib.ListN.{length}
 use lib.Ieee.{Float}
 use Rattle.errors.specs.Answer.{Answer, result, refusal, _>>=_}
 use Rattle.errors.specs.declared.Refusal.{Refusal}
 use Rattle.line2.specs.declared.Line2.{Line2}
 use Rattle.curve2.specs.Entry.{HasPoints}
 use Rattle.curve2.proofs.Laws.{entry-passed}
-use Rattle.runs.specs.Run.{Ending, ended, Out, under}
+use Rattle.runs.specs.Run.{ended, Out, under}
 use Rattle.inscribed.specs.Store.{circleAt, circlesFrom, circlesOf, allNumbers, stored}
 use Rattle.inscribed.specs.declared.Inscribed.{Inscribed}
-use Rattle.inscribed.proofs.StoreLaws.{circles-stored, length-circles}
+use Rattle.inscribed.proofs.StoreLaws.{length-circles, circles-of-stored}
 use Rattle.refine.specs.Machine.{State, refining, advancing, circlesIn, End, finished, lastOf}
 use Rattle.refine.specs.Report.{Report, reported, listedEnd, listedRun}
 use Rattle.refine.specs.Refinement.{refineRun}
 use Rattle.refine.specs.declared.Run.{Run}
 use Rattle.refine.specs.declared.RunEnd.{RunEnd}
 use Rattle.refine.proofs.RefineLaws.{last-stored}
+use Rattle.refine.proofs.RefinedLaws.{refined-fits, refined-units, refined-done, refined-report}
 use Rattle.camber.specs.March.{marchRun, marchEntry, firstCircle, marchStart}
-use Rattle.camber.specs.Outcome.{Outcome, ending, going, advanceOutcome, listedAdvanced}
-use Rattle.camber.specs.declared.advance.Advanced.{Advanced}
-use Rattle.camber.proofs.MarchLoop.{outcomeReport, advance-outcome, refined-fits, refined-units, refined-done, refined-on, refined-ends, refined-report}
-
-pub circles-of-stored : (cs : List Inscribed) (old : List Float) → circlesOf (stored cs old) (length cs) ≡ cs
-unfolding stored
-circles-of-stored cs old = circles-stored cs (drop (7 * length cs) old)
+use Rattle.advance.specs.Outcome.{Outcome, ending, going, advanceOutcome, listedAdvanced}
+use Rattle.advance.specs.declared.Advanced.{Advanced}
+use Rattle.camber.proofs.MarchLoop.{outcomeReport, advance-outcome, refined-on, refined-ends}
 
 module _ (ns : List Float) (tol : Float) (slots limit : ℕ) (old : List Float) (target : Report) where
   -- a circle waits alone

@@ -1,15 +1,13 @@
 -- Demand 3 of marches. Assumes nothing.
-use mathlib.Core.Path.{_≡_, refl}
-use mathlib.Core.List.{List, [], _∷_}
-use Prim.Native.Nat.{ℕ, _*_, _≤_}
+use mathlib.Core.Path.{refl}
+use mathlib.Core.List.{[], _∷_}
+use Prim.Native.Nat.{ℕ}
 use native.Mathlib.Omega.{arith}
-use lib.ListN.{length}
-use lib.Ieee.{Float}
 use Rattle.errors.specs.Answer.{Answer, result, refusal}
 use Rattle.runs.specs.Run.{under, never}
-use Rattle.inscribed.specs.Store.{slots, circlesOf, circlesFrom}
+use Rattle.inscribed.specs.Store.{slots, circlesFrom}
 use Rattle.inscribed.specs.declared.Inscribed.{Inscribed}
-use Rattle.refine.specs.Machine.{State, refining, measure}
+use Rattle.refine.specs.Machine.{refining, measure}
 use Rattle.refine.specs.Law.{LimitLaw}
 use Rattle.refine.proofs.MachineLaws.{Sound}
 use Rattle.refine.proofs.LawOfRuns.{oldLast, entry-law, run-law}

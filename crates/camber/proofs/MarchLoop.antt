@@ -1,51 +1,36 @@
 -- The loop of a march: a refinement, then an advance, and what is left of the march gives the whole. Assumes nothing.
-use mathlib.Core.Path.{_≡_, refl, sym, ap, _∙_}
+use mathlib.Core.Path.{_≡_, refl, ap, _∙_}
 use mathlib.Core.Bool.{Bool, true, false, cond}
-use mathlib.Core.List.{List, [], _∷_, _++_}
-use mathlib.Core.Logic.{_⊎_, inl, inr}
+use mathlib.Core.List.{List, [], _∷_}
 use mathlib.Core.Option.{Option, some, none}
-use Prim.Native.Nat.{ℕ, zero, suc, _+_, _-_, _*_, _≤_, _<_}
+use Prim.Native.Nat.{ℕ, zero, suc, _+_, _-_, _≤_}
 use native.Mathlib.Omega.{arith}
 use borrow.Author.Tests.{lt-ltb, le-ltb}
-use lib.Dec.{leb, ltb}
-use lib.ListN.{length, drop, length-append}
-use lib.Seq.{drop-append-add, drop-drop}
+use lib.Dec.{ltb}
+use lib.ListN.{length}
 use lib.Ieee.{Float, lt}
 use Rattle.errors.specs.Answer.{Answer, result, refusal}
 use Rattle.line2.specs.declared.SurfacePoint2.{SurfacePoint2}
 use Rattle.queries.specs.declared.Crossing.{Crossing}
-use Rattle.runs.specs.Run.{Move, ends, goes, pays, Ending, ended, spent, unfinished, Out, out, under, run, whole}
+use Rattle.runs.specs.Run.{ends, pays, Ending, ended, spent, Out, under, whole}
 use Rattle.runs.proofs.RunLaws.{whole-ends, whole-goes, whole-pays, whole-spent}
-use Rattle.runs.proofs.LimitLaws.{run-holds, ended-step, units-within, part-grows, finishes}
+use Rattle.runs.proofs.LimitLaws.{finishes}
 use Rattle.runs.proofs.SequelLaws.{Sequel, sequel}
-use Rattle.inscribed.specs.Store.{circlesOf, allNumbers, stored}
+use Rattle.inscribed.specs.Store.{stored}
 use Rattle.inscribed.specs.declared.Inscribed.{Inscribed}
-use Rattle.inscribed.proofs.StoreLaws.{length-all, circles-stored}
 use Rattle.halving.specs.Halving.{fromCrossing}
-use Rattle.refine.specs.Machine.{State, refining, advancing, over, circlesIn, End, finished, lastOf, refineMove, measure}
+use Rattle.refine.specs.Machine.{State, refining, advancing, over, circlesIn, End, finished, lastOf, measure}
 use Rattle.refine.specs.Report.{Report, reported}
 use Rattle.refine.specs.Refinement.{refineStep, refineRun}
-use Rattle.refine.proofs.MachineLaws.{refine-falls, refine-grows, Part, Kept, refine-offered-goes, refine-offered-pays, Fits, refine-fits-goes, refine-fits-pays}
-use Rattle.camber.specs.Advance.{Ahead, done, along, lookAhead, stepOf, triedLine}
+use Rattle.refine.proofs.MachineLaws.{refine-falls}
+use Rattle.refine.proofs.RefinedLaws.{refined-done}
+use Rattle.advance.specs.Advance.{Ahead, done, along, lookAhead, stepOf, triedLine}
 use Rattle.camber.specs.March.{afterCircle, afterLine, advanceMove, marchStep, marchRun}
-use Rattle.camber.specs.Outcome.{Outcome, ending, going, circleOutcome, lineOutcome, triesFrom, aheadOutcome, advanceOutcome}
+use Rattle.advance.specs.Outcome.{Outcome, ending, going, circleOutcome, lineOutcome, triesFrom, aheadOutcome, advanceOutcome}
 use Rattle.camber.proofs.MarchMachine.{march-falls, Refines, march-alike, refines-goes, refines-pays}
 
 abbrev report : Ending End → ℕ → ℕ → List Float → Report
 report e n u store = record { ending = e; count = n; units = u; store = store }
-
--- ---- a store that is written on
-
-stored-over : (cs more : List Inscribed) (old : List Float) → stored (cs ++ more) (stored cs old) ≡ stored (cs ++ more) old
-unfolding stored
-stored-over cs more old =
-    let e : 7 * length (cs ++ more) ≡ length (allNumbers cs) + 7 * length more = omega (arith, length-append cs more, length-all cs) in
-    let f : 7 * length cs + 7 * length more ≡ 7 * length (cs ++ more) = omega (arith, length-append cs more) in
-    ap (λ (x : List Float). allNumbers (cs ++ more) ++ x)
-    (ap (λ (k : ℕ). drop k (allNumbers cs ++ drop (7 * length cs) old)) e
-    ∙ drop-append-add (allNumbers cs) (drop (7 * length cs) old) (7 * length more)
-    ∙ drop-drop (7 * length more) (7 * length cs) old
-    ∙ ap (λ (k : ℕ). drop k old) f)
 
 module _ (ns : List Float) (tol : Float) (slots limit : ℕ) (old : List Float) where
   abbrev full : ℕ → Bool
@@ -132,51 +117,6 @@ module _ (ns : List Float) (tol : Float) (slots limit : ℕ) (old : List Float) 
     abbrev fuel : ℕ
     fuel = suc (measure slots start)
 
-    pub refined-fits : length (circlesIn (refined .state)) ≤ slots
-    unfolding whole
-    refined-fits = run-holds (refineStep ns tol slots) full (Fits ns tol slots) (refine-fits-goes ns tol slots) (refine-fits-pays ns tol slots) fuel start u fits
-
-    pub refined-units : refined .units ≤ limit
-    unfolding whole
-    refined-units = units-within (refineStep ns tol slots) limit fuel start u within
-
-    -- its list begins with the one before
-    refined-part : Part start (refined .state)
-    unfolding whole
-    refined-part = part-grows (refineStep ns tol slots) Part (refine-grows ns tol slots) full fuel start u
-
-    refined-kept : Kept ns tol (length cs) slots b (refined .state)
-    unfolding whole
-    refined-kept = run-holds (refineStep ns tol slots) full (Kept ns tol (length cs) slots b) (refine-offered-goes ns tol (length cs) slots b) (refine-offered-pays ns tol (length cs) slots b) fuel start u (omega arith, inl ([], refl))
-
-    refined-step : refined .ending ≡ ended finished → refineStep ns tol slots (refined .state) ≡ ends finished
-    unfolding whole
-    refined-step e = ended-step (refineStep ns tol slots) full fuel start u finished e
-
-    -- where it is finished none waits, and the list has grown
-    pub record Done (s : State) : Type 0 where
-      pub none-waits : s ≡ refining (circlesIn s) []
-      pub grown : length cs < length (circlesIn s)
-
-    finished-done : (s : State) → Kept ns tol (length cs) slots b s → refineStep ns tol slots s ≡ ends finished → Done s
-    unfolding refineStep refineMove
-    finished-done (refining ds []) k e = go (k .1)
-      where
-        go : ((before : List Inscribed) × (_≡_ {A = List Inscribed} [] (before ++ (b ∷ [])))) ⊎ ((_≡_ {A = List Inscribed} [] []) × (before : List Inscribed) × (ds ≡ before ++ (b ∷ [])) × (length cs ≤ length before)) → Done (refining ds [])
-        go (inl q) = absurd (omega (arith, ap length (q .1), length-append (q .0) (b ∷ [])))
-        go (inr q) = record { none-waits = refl; grown = omega (arith, ap length (q .2), length-append (q .1) (b ∷ []), q .3) }
-    finished-done (refining [] (w ∷ ws)) k e = go (leb slots 0) e
-      where
-        go : (x : Bool) → cond {A = Move State End} x (ends (refusal 15)) (goes (refining (w ∷ []) ws)) ≡ ends finished → Done (refining [] (w ∷ ws))
-        go true q = let z : _≡_ {A = ℕ} 0 1 = cc in absurd (omega arith)
-        go false q = let z : _≡_ {A = ℕ} 0 1 = cc in absurd (omega arith)
-    finished-done (refining (d ∷ ds) (w ∷ ws)) k e = let z : _≡_ {A = ℕ} 0 1 = cc in absurd (omega arith)
-    finished-done (advancing ds j) k e = absurd (k .1)
-    finished-done (over ds n) k e = let z : _≡_ {A = ℕ} 0 1 = cc in absurd (omega arith)
-
-    pub refined-done : refined .ending ≡ ended finished → Done (refined .state)
-    refined-done e = finished-done (refined .state) refined-kept (refined-step e)
-
     march-sequel : Sequel (refineStep ns tol slots) (marchStep ns tol slots) (measure slots) (march-falls ns tol slots) full finished Refines (march-alike ns tol slots) (refines-goes ns tol slots) (refines-pays ns tol slots) start u refined
     unfolding whole
     march-sequel = sequel (refineStep ns tol slots) (marchStep ns tol slots) (measure slots) (march-falls ns tol slots) full finished Refines (march-alike ns tol slots) (refines-goes ns tol slots) (refines-pays ns tol slots) fuel start u tt
@@ -185,14 +125,9 @@ module _ (ns : List Float) (tol : Float) (slots limit : ℕ) (old : List Float) 
     pub refined-on : refined .ending ≡ ended finished → marchRun ns tol slots full start u ≡ marchRun ns tol slots full (advancing (circlesIn (refined .state)) 0) (refined .units)
     refined-on e =
         march-sequel .goes-on e
-        ∙ ap (λ (s : State). marchRun ns tol slots full s (refined .units)) (refined-done e .none-waits)
+        ∙ ap (λ (s : State). marchRun ns tol slots full s (refined .units)) (refined-done ns tol slots limit old cs b u fits within e .none-waits)
         ∙ whole-goes (marchStep ns tol slots) (measure slots) (march-falls ns tol slots) full (refining (circlesIn (refined .state)) []) (refined .units) (advancing (circlesIn (refined .state)) 0) (unfold marchStep in refl)
 
     -- or it ends as the refinement does
     pub refined-ends : (refined .ending ≡ ended finished → ⊥) → marchRun ns tol slots full start u ≡ refined
     refined-ends n = march-sequel .as-it-is n (finishes (refineStep ns tol slots) (measure slots) (refine-falls ns tol slots) full start u)
-
-    -- over a store that holds the list, its report is that over the old one
-    pub refined-report : reported (stored cs old) refined ≡ reported old refined
-    unfolding reported
-    refined-report = let p = refined-part in rw (p .1) (ap (λ (x : List Float). report (refined .ending) (length (cs ++ p .0)) (refined .units) x) (stored-over cs (p .0) old))

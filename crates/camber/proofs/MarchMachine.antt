@@ -1,9 +1,9 @@
 -- The machine of a march: its measure falls, its list grows, its pairs stay settled, and while circles wait it moves as a refinement does. Assumes nothing.
-use mathlib.Core.Path.{_≡_, refl, sym, ap, _∙_}
+use mathlib.Core.Path.{_≡_, refl, ap, _∙_}
 use mathlib.Core.Bool.{Bool, true, false, cond}
 use mathlib.Core.List.{List, [], _∷_, _++_}
 use mathlib.Core.Option.{Option, some, none}
-use Prim.Native.Nat.{ℕ, zero, suc, _+_, _-_, _*_, _≤_, _<_}
+use Prim.Native.Nat.{ℕ, suc, _+_, _-_, _≤_, _<_}
 use native.Mathlib.Omega.{arith}
 use borrow.Author.Tests.{ltb-true}
 use lib.Dec.{leb, ltb}
@@ -17,10 +17,10 @@ use Rattle.runs.proofs.LimitLaws.{Grows, run-holds, units-within}
 use Rattle.inscribed.specs.declared.Inscribed.{Inscribed}
 use Rattle.halving.specs.Trial.{trial}
 use Rattle.halving.specs.Halving.{fromCrossing}
-use Rattle.refine.specs.Machine.{State, refining, advancing, over, circlesIn, End, finished, lastOf, afterTrial, refineMove, measure}
+use Rattle.refine.specs.Machine.{State, refining, advancing, over, circlesIn, End, finished, lastOf, afterTrial, measure}
 use Rattle.refine.specs.Refinement.{refineStep}
 use Rattle.refine.proofs.MachineLaws.{no-goes, no-pays, move-goes, move-pays, move-falls, Part, no-more, part-same, part-chain, move-part, Sound, move-sound, Fits, refine-fits-goes, refine-fits-pays}
-use Rattle.camber.specs.Advance.{Ahead, done, along, lookAhead, stepOf, triedLine}
+use Rattle.advance.specs.Advance.{Ahead, done, along, lookAhead, stepOf, triedLine}
 use Rattle.camber.specs.March.{afterCircle, afterLine, advanceMove, marchStep, marchRun}
 
 -- ---- what an advance leads to: the list stays as it is, and the measure falls

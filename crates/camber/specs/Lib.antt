@@ -1,5 +1,2 @@
--- The march along the camber line: `advance_search` and `extract_half_circles`.
-pub mod Advance
-pub mod Listed
+-- The march along the camber line: `extract_half_circles`.
 pub mod March
-pub mod Outcome

@@ -8,7 +8,6 @@ use lib.ListN.{drop}
 use lib.Ieee.{Float, lt}
 use Rattle.errors.specs.Answer.{Answer, result, refusal, _>>=_}
 use Rattle.line2.specs.declared.Line2.{Line2}
-use Rattle.line2.specs.declared.SurfacePoint2.{SurfacePoint2}
 use Rattle.curve2.specs.Entry.{sectionEntry}
 use Rattle.queries.specs.Crossing.{crossingOf, orNoCrossing}
 use Rattle.queries.specs.declared.Crossing.{Crossing}
@@ -20,7 +19,7 @@ use Rattle.refine.specs.Machine.{State, refining, advancing, over, circlesIn, E
 use Rattle.refine.specs.Report.{Report, reported, refusedOnEntry}
 use Rattle.refine.specs.Refinement.{badGeneral}
 use Rattle.sections.specs.Asked.{finiteLine}
-use Rattle.camber.specs.Advance.{Ahead, done, along, lookAhead, stepOf, triedLine}
+use Rattle.advance.specs.Advance.{Ahead, done, along, lookAhead, stepOf, triedLine}
 
 -- After a crossing was tried with fraction number k: its circle waits, the next fraction is due, or 13: "the advance finds no line".
 unfoldable pub afterCircle : List Inscribed → Answer Inscribed → State

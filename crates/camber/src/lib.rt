@@ -1,3 +1,2 @@
 // The march along the camber line.
-pub mod advance;
 pub mod march;

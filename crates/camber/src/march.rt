@@ -1,5 +1,5 @@
 // One march, `extract_half_circles`: refinements and advances by turns.
-use crate::advance::Advanced;
+use advance::Advanced;
 use curve2::AlsoBad;
 use curve2::Entry;
 use errors::Refusal;
@@ -53,7 +53,7 @@ pub fn march_from(
         }
         let k = count - 1;
         let last = inscribed::store::circle_at(store, k);
-        match crate::advance::advance(section, tol, last, limit, taken) {
+        match advance::advance(section, tol, last, limit, taken) {
             Advanced::Ended(end, units) => {
                 return Run { end, count, units };
             }

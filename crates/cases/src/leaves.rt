@@ -1,5 +1,4 @@
 // Points, lines and one edge: the inputs that tell one reading of a step from another.
-use crate::bits;
 use errors::Refusal;
 use errors::ScalarAnswer;
 use line2::Line2;

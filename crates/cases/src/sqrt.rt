@@ -1,5 +1,4 @@
 // Square roots: published vectors, and patterns of a fixed generator.
-use crate::bits;
 
 // 70 arguments and their roots by their bits, rounded to nearest: facts of a C library's published test data.
 const ARGUMENTS: [u64; 70] = [

@@ -3,7 +3,6 @@ use mathlib.Core.Path.{_≡_, sym}
 use mathlib.Core.Bool.{Bool}
 use mathlib.Core.List.{List}
 use lib.Ieee.{Float}
-use Rattle.errors.specs.Answer.{result}
 use Rattle.curve2.specs.Entry.{HasPoints, listedEntry}
 use Rattle.curve2.specs.declared.Entry.{Entry}
 use Rattle.curve2.proofs.Laws.{entry-passed}

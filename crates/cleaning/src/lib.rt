@@ -10,7 +10,7 @@ ghost use lib.Dec.{ltb};
 ghost use lib.ListN.{length};
 ghost use Rattle.errors.specs.Answer.{result};
 ghost use Rattle.curve2.specs.Section.{pointAt, pointsOf, plainDist};
-ghost use Rattle.cleaning.specs.Cleaning.{kept, endsMeet, closing, cleaned, placed, Made};
+ghost use Rattle.cleaning.specs.Cleaning.{kept, endsMeet, closing, curveOf, cleaned, placed, Made};
 ghost use Rattle.cleaning.specs.Reversed.{backwards};
 ghost use Rattle.cleaning.specs.Keeping.{put, keep, closeHeld, holding};
 
@@ -67,7 +67,7 @@ fn ends_meet(points: &[f64], tol: f64) -> bool
 }
 
 // A point more in the output, behind the `count` that it holds.
-fn put(out: &mut [f64], count: usize, p: Point2) -> Kept
+pub fn put(out: &mut [f64], count: usize, p: Point2) -> Kept
     requires { ⌜ 2 * count + 2 ≤ length (now out) ⌝ }
     ensures { λ r. ⌜ (record { kept = r; output = now (out .exit) }) ≡ put count p (now (out .entry)) ⌝ }
 {
@@ -167,6 +167,19 @@ fn clean(points: &[f64], tol: f64, force_closed: bool, out: &mut [f64]) -> Curve
     }
 }
 
+// The curve of points whose count and output have been tested: 5 where fewer than two are kept.
+pub fn clean_points(points: &[f64], tol: f64, force_closed: bool, out: &mut [f64]) -> CurveAnswer
+    requires { ⌜ length (now points) % 2 ≡ 0 ⌝ }
+    requires { ⌜ 2 ≤ length (now points) ⌝ }
+    requires { ⌜ length (now points) + 2 ≤ length (now out) ⌝ }
+    ensures { λ r. ⌜ Made (curveOf tol «force_closed» (pointsOf (now (points .entry)))) tol (now (out .entry)) (now (out .exit)) r ⌝ }
+{
+    if is_too_few(points, tol) {
+        return CurveAnswer::Refused(Refusal::TooFewKept);
+    }
+    CurveAnswer::Value(clean(points, tol, force_closed, out))
+}
+
 // The curve of a list of points: a point no farther than the tolerance from the last one kept is dropped, and forced closing adds the start
 // where the ends are farther apart. The kept points come into the output, which keeps what stands behind them.
 pub fn from_points(points: &[f64], tol: f64, force_closed: bool, out: &mut [f64]) -> CurveAnswer
@@ -185,10 +198,7 @@ pub fn from_points(points: &[f64], tol: f64, force_closed: bool, out: &mut [f64]
     if out.len() < n + 2 {
         return CurveAnswer::Refused(Refusal::NoRoom);
     }
-    if is_too_few(points, tol) {
-        return CurveAnswer::Refused(Refusal::TooFewKept);
-    }
-    CurveAnswer::Value(clean(points, tol, force_closed, out))
+    clean_points(points, tol, force_closed, out)
 }
 
 // A section's points backwards, into the output's start.

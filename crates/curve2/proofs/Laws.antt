@@ -1,8 +1,8 @@
 -- Laws of a section's numbers and points. Assumes nothing.
-use mathlib.Core.Path.{_≡_, refl, sym, ap, _∙_}
+use mathlib.Core.Path.{_≡_, refl, sym, _∙_}
 use mathlib.Core.Bool.{Bool, true, false, not, _||_, cond}
 use mathlib.Core.List.{List, [], _∷_}
-use Prim.Native.Nat.{ℕ, zero, suc, _+_, _/_, _%_, _≤_, _<_}
+use Prim.Native.Nat.{ℕ, suc, _+_, _/_, _%_, _≤_, _<_}
 use native.Mathlib.Numerals.{add-one, add-two}
 use native.Mathlib.Omega.{arith}
 use borrow.Author.Tests.{eqb-true, ltb-false, not-false}
@@ -10,7 +10,7 @@ use lib.Dec.{eqb, ltb, lit≤}
 use lib.ListN.{length, getD, drop, drop-of-length-le}
 use lib.Seq.{drop-cons}
 use lib.Ieee.{Float, nan, lt, le}
-use Rattle.errors.specs.Answer.{Answer, result, refusal}
+use Rattle.errors.specs.Answer.{result, refusal}
 use Rattle.points.specs.Numbers.{_+f_}
 use Rattle.curve2.specs.Section.{pointsOf, pointAt, plainDist, wholeFrom, wholeLength}
 use Rattle.curve2.specs.Entry.{tested, badCount, inRange, badNumbers, badTolerance, notSpacedFrom, notSpaced, sectionTests, sectionEntry, HasPoints, IsSection}

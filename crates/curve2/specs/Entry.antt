@@ -1,7 +1,7 @@
 -- The entry tests: "1 to 6 are tested on entry in number order". Each is a number and whether its test fails; the first that fails is the answer.
 -- A call that hands in more than a section adds to the tests of 2, 3 and 4 what fails of its other arguments. Assumes nothing.
 use mathlib.Core.Path.{_≡_}
-use mathlib.Core.Bool.{Bool, true, false, not, _&&_, _||_, cond}
+use mathlib.Core.Bool.{Bool, false, not, _&&_, _||_, cond}
 use mathlib.Core.List.{List, [], _∷_}
 use Prim.Native.Nat.{ℕ, _+_, _%_, _≤_}
 use lib.Dec.{eqb, ltb}

@@ -1,7 +1,7 @@
 -- A section is a list of numbers, x and y of each point in turn. Its points, edges and lengths. Assumes nothing.
 use mathlib.Core.Bool.{Bool}
 use mathlib.Core.List.{List, [], _∷_}
-use Prim.Native.Nat.{ℕ, zero, suc, _+_, _-_}
+use Prim.Native.Nat.{ℕ, _+_, _-_}
 use lib.ListN.{length, getD}
 use lib.Ieee.{Float, nan, le}
 use Rattle.root.specs.Sqrt.{sqrtOf}

@@ -1,25 +1,23 @@
 -- A march in the part of a store behind its first circles, and what is the same at larger limits. Assumes nothing.
-use mathlib.Core.Path.{_≡_, refl, sym, ap, _∙_}
-use mathlib.Core.Bool.{Bool}
+use mathlib.Core.Path.{_≡_, sym, ap, _∙_}
 use mathlib.Core.List.{List, [], _∷_, _++_, map, append-nil}
-use Prim.Native.Nat.{ℕ, _+_, _-_, _*_, _≤_, _<_}
+use Prim.Native.Nat.{ℕ, _+_, _-_, _*_, _≤_}
 use native.Mathlib.Omega.{arith}
 use borrow.Rule.Slice.PartMut.{putMid}
 use lib.ListN.{length, take, drop, length-drop, drop-of-length-le, length-map, length-reverse}
-use lib.Seq.{take-all, drop-at}
+use lib.Seq.{take-all}
 use lib.Ieee.{Float}
-use Rattle.errors.specs.Answer.{result, refusal}
+use Rattle.errors.specs.Answer.{refusal}
 use Rattle.runs.specs.Run.{Ending, ended, spent, Out, under}
 use Rattle.inscribed.specs.Circles.{reversedPoints}
-use Rattle.inscribed.specs.Store.{circlesOf, allNumbers, stored, slots}
-use Rattle.inscribed.proofs.StoreLaws.{length-all}
+use Rattle.inscribed.specs.Store.{circlesOf, stored, slots}
 use Rattle.inscribed.specs.declared.Inscribed.{Inscribed}
 use Rattle.turning.specs.Turned.{turned}
 use Rattle.refine.specs.Machine.{State, refining, circlesIn, End, finished}
 use Rattle.refine.specs.Report.{Report, reported, listedEnd, listedRun}
 use Rattle.refine.specs.declared.Run.{Run}
 use Rattle.camber.specs.March.{Marched, marchRun, startedRun}
-use Rattle.camber.proofs.MarchFrom.{circles-of-stored}
+use Rattle.inscribed.proofs.StoreLaws.{stored-longer, circles-of-stored}
 use Rattle.camber.proofs.MarchMachine.{march-fits, march-units}
 use Rattle.extraction.specs.Extraction.{behind, secondHalf, afterFirst, firstHalf}
 
@@ -58,11 +56,6 @@ length-turned : (cs : List Inscribed) → length (turned cs) ≡ length cs
 unfolding turned
 length-turned cs = length-reverse (map reversedPoints cs) ∙ length-map cs reversedPoints
 
--- as many circles over a store that holds circles
-stored-same : (xs cs : List Inscribed) (old : List Float) → length xs ≡ length cs → stored xs (stored cs old) ≡ stored xs old
-unfolding stored
-stored-same xs cs old e = rw e (ap (λ (x : List Float). allNumbers xs ++ x) (drop-at (allNumbers cs) (drop (7 * length cs) old) (7 * length cs) (length-all cs)))
-
 module _ (m : Marched) (limit : ℕ) (c : Inscribed) (r : Run) (after : List Float) (is : listedRun r after ≡ reported (m .store) (startedRun m (under limit) c)) where
   abbrev first : Out State End
   first = startedRun m (under limit) c
@@ -99,7 +92,7 @@ module _ (m : Marched) (limit : ℕ) (c : Inscribed) (r : Run) (after : List Flo
     held = rw (store-is, count-is) (circles-of-stored cs (m .store))
 
     turned-over : stored (turned cs) after ≡ stored (turned cs) (m .store)
-    turned-over = rw store-is (stored-same (turned cs) cs (m .store) (length-turned cs))
+    turned-over = rw store-is (stored-longer (turned cs) cs (m .store) (omega (arith, length-turned cs)))
 
     pub first-done : secondHalf (m .section) (m .tol) (m .line) (slots (m .store)) (under limit) after (circlesOf after (r .count)) (r .units) ≡ firstHalf m (under limit) c
     unfolding afterFirst secondHalf

@@ -15,7 +15,7 @@ use Rattle.inscribed.specs.Store.{slots, stored}
 use Rattle.inscribed.specs.declared.Inscribed.{Inscribed}
 use Rattle.turning.specs.Turned.{turned}
 use Rattle.refine.specs.Machine.{State, refining, circlesIn, End, measure}
-use Rattle.refine.specs.Report.{Report, reported}
+use Rattle.refine.specs.Report.{reported}
 use Rattle.refine.proofs.MachineLaws.{Part}
 use Rattle.camber.specs.March.{Marched, marchStep, marchRun, firstCircle, startOf, startedRun}
 use Rattle.camber.proofs.MarchMachine.{march-grows}

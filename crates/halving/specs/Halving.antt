@@ -3,7 +3,7 @@ use mathlib.Core.Bool.{Bool, cond}
 use mathlib.Core.List.{List}
 use Prim.Native.Nat.{ℕ, zero, suc}
 use lib.Ieee.{Float, lt, ofBits, binary64}
-use Rattle.errors.specs.Answer.{Answer, result, refusal, watched, _>>=_}
+use Rattle.errors.specs.Answer.{Answer, result, refusal, _>>=_}
 use Rattle.points.specs.Numbers.{_+f_, _-f_, _*f_, f0, f½, f1}
 use Rattle.points.specs.Points.{minus, dotOf, normOf, distOf}
 use Rattle.points.specs.declared.Point2.{Point2}

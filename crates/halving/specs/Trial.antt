@@ -1,9 +1,9 @@
 -- `try_inscribed` and `inscribed_refined`, the trial. Assumes nothing.
-use mathlib.Core.Bool.{Bool, _||_, cond}
+use mathlib.Core.Bool.{_||_, cond}
 use mathlib.Core.List.{List}
 use mathlib.Core.Option.{Option, some, none}
 use lib.Ieee.{Float, lt, neg}
-use Rattle.errors.specs.Answer.{Answer, result, refusal, watched, _>>=_}
+use Rattle.errors.specs.Answer.{Answer, result, watched, _>>=_}
 use Rattle.points.specs.Numbers.{_+f_, _-f_, _*f_, f0, f½}
 use Rattle.points.specs.Points.{distOf}
 use Rattle.points.specs.declared.AngleDir.the-variants.{Ccw}

@@ -104,6 +104,25 @@ stored-again ns n h = rw (length-circles ns 0 n, numbers-of-circles ns n h) (tak
 
 -- ---- a circle put
 
+-- ---- a store that is written on
+
+-- at least as many circles over a store that holds circles
+pub stored-longer : (xs cs : List Inscribed) (old : List Float) → length cs ≤ length xs → stored xs (stored cs old) ≡ stored xs old
+unfolding stored
+stored-longer xs cs old h =
+    let more : ℕ = 7 * length xs - 7 * length cs in
+    let e : 7 * length xs ≡ length (allNumbers cs) + more = omega (arith, length-all cs) in
+    let f : 7 * length cs + more ≡ 7 * length xs = omega arith in
+    ap (λ (x : List Float). allNumbers xs ++ x)
+    (ap (λ (k : ℕ). drop k (allNumbers cs ++ drop (7 * length cs) old)) e
+    ∙ drop-append-add (allNumbers cs) (drop (7 * length cs) old) more
+    ∙ drop-drop more (7 * length cs) old
+    ∙ ap (λ (k : ℕ). drop k old) f)
+
+pub circles-of-stored : (cs : List Inscribed) (old : List Float) → circlesOf (stored cs old) (length cs) ≡ cs
+unfolding stored
+circles-of-stored cs old = circles-stored cs (drop (7 * length cs) old)
+
 pub seven-sets : (ns : List Float) (k : ℕ) (c : Inscribed) → (k + 1) * 7 ≤ length ns
     → set (set (set (set (set (set (set ns (k * 7) (c .cx)) (k * 7 + 1) (c .cy)) (k * 7 + 2) (c .r)) (k * 7 + 3) (c .p0x)) (k * 7 + 4) (c .p0y)) (k * 7 + 5) (c .p1x)) (k * 7 + 6) (c .p1y)
     ≡ withCircle ns k c

@@ -1,5 +1,5 @@
 -- A circle: centre x, y, radius, contact p0 x, y, contact p1 x, y. Assumes nothing.
-use lib.Ieee.{Float, nan}
+use lib.Ieee.{Float}
 use Rattle.errors.specs.Answer.{Answer, result, refusal}
 use Rattle.errors.specs.Refusals.{numberOf}
 use Rattle.points.specs.Points.{minus, rotated}

@@ -3,7 +3,7 @@ use mathlib.Core.Bool.{Bool, false, not, _&&_, _||_}
 use mathlib.Core.List.{List, [], _∷_, _++_}
 use Prim.Native.Nat.{ℕ, zero, suc, _+_, _*_, _/_, min}
 use lib.Dec.{ltb}
-use lib.ListN.{length, getD, take, drop}
+use lib.ListN.{length, getD, drop}
 use lib.Ieee.{Float, nan, lt}
 use lib.Ieee.Scale.{finite}
 use Rattle.points.specs.Numbers.{f0}

@@ -60,7 +60,8 @@ pub fn put_circle(store: &mut [f64], k: usize, c: Inscribed)
     store[i6] = c.p1y;
 }
 
-fn least(a: usize, b: usize) -> usize
+// The lesser of two numbers.
+pub fn least(a: usize, b: usize) -> usize
     ensures { λ r. ⌜ r ≡ min a b ⌝ }
 {
     if a < b { a } else { b }

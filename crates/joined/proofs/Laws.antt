@@ -1,13 +1,13 @@
 -- The joined crossing: fractions put in their places in an array, and those near the last kept one dropped. Assumes nothing.
 use mathlib.Core.Path.{_≡_, refl, sym, ap, _∙_}
 use mathlib.Core.Bool.{Bool, true, false, cond}
-use mathlib.Core.List.{List, [], _∷_, _++_, map}
+use mathlib.Core.List.{List, [], _∷_, _++_}
 use mathlib.Core.Option.{Option, some, none}
 use Prim.Native.Nat.{ℕ, zero, suc, _+_, _-_, _≤_, _<_}
-use native.Mathlib.Nat.{add-zero, zero-add, add-suc, suc-add, le-refl}
+use native.Mathlib.Nat.{add-zero, le-refl}
 use native.Mathlib.Numerals.{add-one}
 use native.Mathlib.Omega.{arith}
-use lib.ListN.{length, getD, take, drop, set, length-append, length-take, length-drop, take-append-drop, drop-of-length-le}
+use lib.ListN.{length, getD, take, drop, set, length-append, length-drop, take-append-drop, drop-of-length-le}
 use lib.Seq.{drop-cons, take-suc, length-take-le, take-at, drop-at, getD-at, take-append-add, getD-append-add, getD-take, getD-drop, take-add, set-at, append-snoc}
 use lib.Ieee.{Float, nan, lt}
 use Rattle.errors.specs.Answer.{Answer, result, refusal, _>>=_}
@@ -18,7 +18,6 @@ use Rattle.queries.specs.Hits.{Hit, hitsFrom, inserted, sortedInto, sorted, sma
 use Rattle.queries.specs.Seen.{addedTo, seenOf}
 use Rattle.queries.specs.Crossing.{Span, spanOf, crossed, crossingWith, joinedCrossingOf}
 use Rattle.joined.specs.Fractions.{fractions, placeOf, insertedFraction, sortedFractions, keptAfter, keptOf}
-use Rattle.queries.specs.declared.Crossing.{Crossing}
 use Rattle.queries.specs.declared.hits.Seen.{Seen}
 use Rattle.queries.proofs.PassLaws.{gathered, passLeft}
 use Rattle.queries.proofs.SeenLaws.{after-nothing}

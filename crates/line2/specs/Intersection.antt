@@ -2,7 +2,7 @@
 use mathlib.Core.Bool.{cond}
 use mathlib.Core.Option.{Option, some, none}
 use lib.Ieee.{Float}
-use Rattle.errors.specs.Answer.{Answer, result, refusal, watched, _>>=_}
+use Rattle.errors.specs.Answer.{Answer, result, watched, _>>=_}
 use Rattle.points.specs.Numbers.{_-f_, _*f_, _/f_, tiny, within}
 use Rattle.points.specs.Points.{minus}
 use Rattle.points.specs.declared.Vector2.{Vector2}

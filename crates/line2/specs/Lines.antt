@@ -1,6 +1,6 @@
 -- Lines (origin and direction) and surface points (point and normal), which are the camber rays too. Assumes nothing.
 use lib.Ieee.{Float}
-use Rattle.errors.specs.Answer.{Answer, result, refusal, _>>=_}
+use Rattle.errors.specs.Answer.{Answer, result, _>>=_}
 use Rattle.points.specs.Numbers.{f½}
 use Rattle.points.specs.Points.{watchedPoint, minus, plus, moved, negated, rotated, difference, dotOf, normalized}
 use Rattle.points.specs.declared.Point2.{Point2}

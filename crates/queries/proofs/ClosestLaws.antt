@@ -17,7 +17,7 @@ use Rattle.segment2.specs.declared.EdgePointAnswer.{EdgePointAnswer}
 use Rattle.curve2.specs.Section.{pointsOf, pointAt}
 use Rattle.curve2.proofs.Laws.{length-points}
 use Rattle.queries.specs.Edges.{Edge, sectionEdges}
-use Rattle.queries.specs.Nearest.{nearest, closestOnAll, leastOf, leastOfAll, nearestAfter, nearestOf}
+use Rattle.queries.specs.Nearest.{nearest, closestOnAll, leastOf, leastOfAll, nearestOf}
 use Rattle.queries.specs.declared.Nearest.{Nearest}
 use Rattle.queries.proofs.EdgeLaws.{edges-step, edges-end, next-edge, length-edges}
 
@@ -44,14 +44,66 @@ module _ (ns : List Float) (p : Point2) (i : ℕ) (best : Nearest) (whole : Answ
 
 -- ---- the first edge
 
-module _ (ns : List Float) (p : Point2) (fits : 3 < length ns) (r : EdgePointAnswer) (is : listedEdgePoint r ≡ closestOnEdge p (pointAt ns 0) (pointAt ns 2)) where
-  pub first-refused : (x : Refusal) → r ≡ EdgePointAnswer.Refused x → refusal (numberOf x) ≡ nearestOf ns p
+module _ (ns : List Float) (p : Point2) (fits : 3 < length ns) where
+  pub first-refused : (r : EdgePointAnswer) → listedEdgePoint r ≡ closestOnEdge p (pointAt ns 0) (pointAt ns 2) → (x : Refusal) → r ≡ EdgePointAnswer.Refused x → refusal (numberOf x) ≡ nearestOf ns p
   unfolding nearestOf closestOnAll
-  first-refused x e = rw (edges-step ns 0 fits, ← (rw e at is))
+  first-refused r is x e = rw (edges-step ns 0 fits, ← (rw e at is))
 
-  pub first-nearest : (q : EdgePoint) → r ≡ EdgePointAnswer.Value q → nearestAfter (sectionEdges (drop 2 ns)) p q ≡ nearestOf ns p
+  first-nearest : (q : EdgePoint) → closestOnEdge p (pointAt ns 0) (pointAt ns 2) ≡ result q → closestLeft ns p 2 (nearest 0 q) ≡ nearestOf ns p
   unfolding nearestOf closestOnAll leastOfAll
-  first-nearest q e = rw (edges-step ns 0 fits, ← (rw e at is)) (sym (bind-assoc (closestOnAll p (sectionEdges (drop 2 ns))) (λ qs. result (q ∷ qs)) leastOfAll))
+  first-nearest q e = rw (edges-step ns 0 fits, e) (sym (bind-assoc (closestOnAll p (sectionEdges (drop 2 ns))) (λ qs. result (q ∷ qs)) leastOfAll))
+
+-- ---- what the pass keeps: where the best edge starts, and its squared distance
+
+pub record Best (ns : List Float) (p : Point2) (whole : Answer Nearest) (i start : ℕ) (least : Float) : Type 0 where
+  pub best : Nearest
+  pub index : best .index ≡ start / 2
+  pub square : best .at .square ≡ least
+  pub from : closestOnEdge p (pointAt ns start) (pointAt ns (start + 2)) ≡ result (best .at)
+  pub fits : start + 3 < length ns
+  pub left : closestLeft ns p i best ≡ whole
+
+pub best-first : (ns : List Float) (p : Point2) (first : EdgePoint) → closestOnEdge p (pointAt ns 0) (pointAt ns 2) ≡ result first → 3 < length ns
+    → Best ns p (nearestOf ns p) 2 0 (first .square)
+best-first ns p first e h = record { best = nearest 0 first; index = refl; square = refl; from = e; fits = h; left = first-nearest ns p h first e }
+
+module _ (ns : List Float) (p : Point2) (whole : Answer Nearest) (i start : ℕ) (least : Float) (b : Best ns p whole i start least) where
+  module _ (fits : i + 3 < length ns) (r : EdgePointAnswer) (is : listedEdgePoint r ≡ closestOnEdge p (pointAt ns i) (pointAt ns (i + 2))) where
+    pub best-refused : (x : Refusal) → r ≡ EdgePointAnswer.Refused x → refusal (numberOf x) ≡ whole
+    best-refused x e = closest-refused ns p i (b .best) whole (b .left) fits r is x e
+
+    pub best-taken : (q : EdgePoint) → r ≡ EdgePointAnswer.Value q → lt (q .square) least ≡ true → Best ns p whole (i + 2) i (q .square)
+    best-taken q e t = record {
+      best = nearest (i / 2) q;
+      index = refl;
+      square = refl;
+      from = sym (rw e at is);
+      fits = fits;
+      left = closest-nearer ns p i (b .best) whole (b .left) fits r is q (nearest (i / 2) q) e (rw (b .square, t));
+    }
+
+    pub best-kept : (q : EdgePoint) → r ≡ EdgePointAnswer.Value q → lt (q .square) least ≡ false → Best ns p whole (i + 2) start least
+    best-kept q e t = record {
+      best = b .best;
+      index = b .index;
+      square = b .square;
+      from = b .from;
+      fits = b .fits;
+      left = closest-nearer ns p i (b .best) whole (b .left) fits r is q (b .best) e (rw (b .square, t));
+    }
+
+  module _ (over : i + 2 ≡ length ns) (r : EdgePointAnswer) (is : listedEdgePoint r ≡ closestOnEdge p (pointAt ns start) (pointAt ns (start + 2))) where
+    again : listedEdgePoint r ≡ result (b .best .at)
+    again = is ∙ b .from
+
+    pub best-found : (q : EdgePoint) → r ≡ EdgePointAnswer.Value q → result (nearest (start / 2) q) ≡ whole
+    best-found q e =
+        let s : result q ≡ result (b .best .at) = rw e at again in
+        let t : q ≡ b .best .at = cc in
+        rw (t, ← (b .index)) (closest-end ns p i (b .best) whole (b .left) over)
+
+    pub best-not-refused : (x : Refusal) → r ≡ EdgePointAnswer.Refused x → refusal (numberOf x) ≡ whole
+    best-not-refused x e = let s : _≡_ {A = Answer EdgePoint} (refusal (numberOf x)) (result (b .best .at)) = rw e at again in let z : _≡_ {A = ℕ} 0 1 = cc in absurd (omega arith)
 
 -- ---- the nearest point's edge is one of the section's
 

@@ -1,23 +1,19 @@
 -- One pass gives the crossing: every edge has one hit at most, so the pass over near hits on one edge drops none, and two hits are in order or swapped. Assumes nothing.
-use mathlib.Core.Path.{_≡_, refl, sym, ap, _∙_}
-use mathlib.Core.Bool.{Bool, true, false, _&&_, cond}
+use mathlib.Core.Path.{_≡_, refl, sym, ap}
+use mathlib.Core.Bool.{Bool, true, false, cond}
 use mathlib.Core.List.{List, [], _∷_}
 use mathlib.Core.Option.{Option, some, none}
-use Prim.Native.Nat.{ℕ, zero, suc, _+_, _≤_, _<_}
-use native.Mathlib.Nat.{add-suc, suc-add, zero-add}
+use Prim.Native.Nat.{ℕ, suc, _+_, _≤_, _<_}
 use native.Mathlib.Omega.{arith}
 use borrow.Author.Tests.{ne-eqb}
-use lib.Dec.{eqb}
 use lib.ListN.{length}
 use lib.Ieee.{Float, lt}
 use Rattle.errors.specs.Answer.{Answer, result, refusal, _>>=_}
-use Rattle.errors.proofs.Laws.{bind-assoc}
 use Rattle.line2.specs.declared.Line2.{Line2}
 use Rattle.queries.specs.Edges.{Edge, sectionEdges}
-use Rattle.queries.specs.Hits.{Hit, hit, edgeHit, joinedTo, hitsFrom, inserted, sortedInto, sorted, nearby, nearbyOnEdge, droppedAfter, dropped}
+use Rattle.queries.specs.Hits.{Hit, hit, edgeHit, joinedTo, hitsFrom, inserted, sortedInto, sorted, nearbyOnEdge, droppedAfter, dropped}
 use Rattle.queries.specs.Seen.{seenOf, seenHits}
 use Rattle.queries.specs.Crossing.{Span, spanOf, crossed, crossingWith, crossingOf}
-use Rattle.queries.specs.declared.Crossing.{Crossing}
 use Rattle.queries.specs.declared.hits.Seen.{Seen}
 
 -- ---- edges of hits: below k, from k on and rising, and none twice

@@ -4,3 +4,4 @@ pub mod ClosestLaws
 pub mod PassLaws
 pub mod SeenLaws
 pub mod CrossingLaws
+pub mod OrderLaws

@@ -1,5 +1,5 @@
 -- One pass over the edges that gathers their hits in order, whatever it keeps of them: each way through its body keeps that what is left decides. Assumes nothing.
-use mathlib.Core.Path.{_≡_, refl, sym, _∙_}
+use mathlib.Core.Path.{_≡_, sym, _∙_}
 use mathlib.Core.List.{List, [], _∷_}
 use mathlib.Core.Option.{some, none}
 use Prim.Native.Nat.{ℕ, suc, _+_, _/_, _<_}

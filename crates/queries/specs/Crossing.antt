@@ -1,5 +1,5 @@
 -- `crossing_line`: "answers exactly if two remain"; and the joined crossing. Assumes nothing.
-use mathlib.Core.Bool.{Bool, false}
+use mathlib.Core.Bool.{Bool}
 use mathlib.Core.List.{List, [], _∷_}
 use mathlib.Core.Option.{Option, some, none}
 use lib.Ieee.{Float}

@@ -5,7 +5,7 @@ use mathlib.Core.Option.{Option, some, none}
 use Prim.Native.Nat.{ℕ, suc}
 use lib.Dec.{eqb}
 use lib.Ieee.{Float, lt, le, ofBits, binary64}
-use Rattle.errors.specs.Answer.{Answer, result, refusal, _>>=_}
+use Rattle.errors.specs.Answer.{Answer, result, _>>=_}
 use Rattle.points.specs.Numbers.{_-f_, f0, f1, within}
 use Rattle.points.specs.Points.{minus}
 use Rattle.line2.specs.Lines.{lineOf}

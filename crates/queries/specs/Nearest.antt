@@ -34,10 +34,6 @@ leastOfAll (q ∷ qs) = result (leastOf (nearest 0 q) 1 qs)
 unfoldable pub nearestOf : List Float → Point2 → Answer Nearest
 nearestOf ns p = closestOnAll p (sectionEdges ns) >>= leastOfAll
 
--- the nearest of q of edge 0 and those of the edges after it
-abbrev pub nearestAfter : List Edge → Point2 → EdgePoint → Answer Nearest
-nearestAfter es p q = closestOnAll p es >>= λ qs. result (leastOf (nearest 0 q) 1 qs)
-
 abbrev pub listedNearest : NearestAnswer → Answer Nearest
 listedNearest (NearestAnswer.Value n) = result n
 listedNearest (NearestAnswer.Refused r) = refusal (numberOf r)

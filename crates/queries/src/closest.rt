@@ -5,15 +5,13 @@ use points::Point2;
 use segment2::EdgePoint;
 use segment2::EdgePointAnswer;
 ghost use mathlib.Core.Path.{_≡_};
-ghost use mathlib.Core.Bool.{cond};
 ghost use Prim.Native.Nat.{_+_, _<_};
-ghost use lib.ListN.{length, drop};
-ghost use lib.Ieee.{lt};
+ghost use lib.ListN.{length};
+ghost use Rattle.errors.specs.Answer.{result};
 ghost use Rattle.segment2.specs.Closest.{closestOnEdge, listedEdgePoint};
 ghost use Rattle.curve2.specs.Section.{pointAt};
 ghost use Rattle.curve2.specs.Entry.{HasPoints};
-ghost use Rattle.queries.specs.Edges.{sectionEdges};
-ghost use Rattle.queries.specs.Nearest.{nearest, nearestAfter, nearestOf, listedNearest};
+ghost use Rattle.queries.specs.Nearest.{nearestOf, listedNearest};
 
 // The nearest point of the edge whose first point's numbers start at i.
 fn closest_at(section: &[f64], i: usize, p: Point2) -> EdgePointAnswer
@@ -34,41 +32,39 @@ fn closest_at(section: &[f64], i: usize, p: Point2) -> EdgePointAnswer
     segment2::closest_on_edge(p, a, b)
 }
 
-// The nearer of the best so far and q of a later edge.
-fn nearer(best: Nearest, index: usize, q: EdgePoint) -> Nearest
-    ensures { λ r. ⌜ r ≡ cond (lt (q .square) (best .at .square)) (nearest index q) best ⌝ }
-{
-    let held = best.at;
-    let least = held.square;
-    let square = q.square;
-    if square < least {
-        return Nearest { index, at: q };
-    }
-    best
-}
-
-// The nearest of the first edge's point and those of the edges after it.
+// The nearest point of a section whose first edge has the nearest point `first`. The pass keeps the least squared distance and where its edge starts, and works that edge's
+// point out again at the end.
 fn closest_after(section: &[f64], p: Point2, first: EdgePoint) -> NearestAnswer
     requires { ⌜ HasPoints (now section) ⌝ }
-    ensures { λ r. ⌜ listedNearest r ≡ nearestAfter (sectionEdges (drop 2 (now (section .entry)))) p first ⌝ }
+    requires { ⌜ closestOnEdge p (pointAt (now section) 0) (pointAt (now section) 2) ≡ result first ⌝ }
+    ensures { λ r. ⌜ listedNearest r ≡ nearestOf (now (section .entry)) p ⌝ }
 {
-    let mut best = Nearest {
-        index: 0,
-        at: first,
-    };
+    let mut least = first.square;
+    let mut start: usize = 0;
     let mut i: usize = 2;
     while i + 3 < section.len() {
-        match closest_at(section, i, p) {
+        let here = i;
+        i = here + 2;
+        match closest_at(section, here, p) {
             EdgePointAnswer::Value(q) => {
-                best = nearer(best, i / 2, q);
+                let square = q.square;
+                if square < least {
+                    least = square;
+                    start = here;
+                }
             }
             EdgePointAnswer::Refused(r) => {
                 return NearestAnswer::Refused(r);
             }
         }
-        i += 2;
     }
-    NearestAnswer::Value(best)
+    match closest_at(section, start, p) {
+        EdgePointAnswer::Value(q) => {
+            let index = start / 2;
+            NearestAnswer::Value(Nearest { index, at: q })
+        }
+        EdgePointAnswer::Refused(r) => NearestAnswer::Refused(r),
+    }
 }
 
 // The nearest point of a section; the lower edge where two are as near.

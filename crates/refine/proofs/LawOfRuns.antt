@@ -2,14 +2,13 @@
 use mathlib.Core.Path.{_≡_, refl, sym, ap, _∙_}
 use mathlib.Core.Bool.{Bool}
 use mathlib.Core.List.{List, [], _∷_, _++_, append-assoc}
-use Prim.Native.Nat.{ℕ, zero, suc, _+_, _-_, _*_, _≤_, _<_, min}
+use Prim.Native.Nat.{ℕ, suc, _+_, _-_, _*_, _≤_}
 use native.Mathlib.Nat.{add-zero}
 use native.Mathlib.Omega.{arith}
 use lib.ListN.{length, take, drop, length-append, length-drop, take-append-drop}
 use lib.Seq.{take-at, drop-at, drop-append-le}
 use lib.Ieee.{Float}
-use Rattle.errors.specs.Answer.{Answer, result, refusal}
-use Rattle.runs.specs.Run.{Move, goes, pays, Ending, ended, spent, Out, under, never, whole}
+use Rattle.runs.specs.Run.{Move, goes, pays, Out, under, never, whole}
 use Rattle.runs.proofs.LimitLaws.{Grows, part-grows, run-holds, spent-if, if-spent, not-spent, units-min, not-spent-later, part-later}
 use Rattle.inscribed.specs.Store.{circlesOf, numbersOf, allNumbers, stored}
 use Rattle.inscribed.specs.declared.Inscribed.{Inscribed}

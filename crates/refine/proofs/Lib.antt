@@ -3,3 +3,4 @@ pub mod MachineLaws
 pub mod LawOfRuns
 pub mod RefinementLaw
 pub mod RefineLaws
+pub mod RefinedLaws

@@ -1,13 +1,12 @@
 -- The machine of refinements: each move makes its measure fall and its list grow; what every move keeps. Assumes nothing.
-use mathlib.Core.Path.{_≡_, refl, sym, ap, _∙_}
+use mathlib.Core.Path.{_≡_, refl, ap, _∙_}
 use mathlib.Core.Bool.{Bool, true, false, cond}
 use mathlib.Core.List.{List, [], _∷_, _++_, append-assoc}
 use mathlib.Core.Logic.{_⊎_, inl, inr, ⊎-elim}
 use mathlib.Core.Option.{Option, some, none}
-use Prim.Native.Nat.{ℕ, zero, suc, _+_, _-_, _*_, _≤_, _<_}
-use native.Mathlib.Nat.{add-zero}
+use Prim.Native.Nat.{ℕ, zero, suc, _+_, _-_, _≤_, _<_}
 use native.Mathlib.Omega.{arith}
-use borrow.Author.Tests.{leb-true, leb-false}
+use borrow.Author.Tests.{leb-false}
 use lib.Dec.{leb}
 use lib.ListN.{length, drop, length-append}
 use lib.Seq.{drop-append-le}
@@ -18,7 +17,7 @@ use Rattle.runs.proofs.RunLaws.{Falls}
 use Rattle.runs.proofs.LimitLaws.{Grows}
 use Rattle.halving.specs.Trial.{trial}
 use Rattle.inscribed.specs.declared.Inscribed.{Inscribed}
-use Rattle.refine.specs.Machine.{State, refining, advancing, over, circlesIn, End, finished, lastOf, afterTrial, refineMove, waitingLeft, measure}
+use Rattle.refine.specs.Machine.{State, refining, advancing, over, circlesIn, End, lastOf, afterTrial, refineMove, waitingLeft, measure}
 use Rattle.refine.specs.Refinement.{refineStep}
 use Rattle.refine.specs.Law.{Settled}
 

@@ -1,6 +1,5 @@
 -- The loop of `refine`: each way through its body keeps that what is left of the run gives the whole. Assumes nothing.
 use mathlib.Core.Path.{_≡_, refl, sym, ap, _∙_}
-use mathlib.Core.Bool.{Bool, true, false, cond}
 use mathlib.Core.List.{List, [], _∷_, _++_}
 use mathlib.Core.Option.{Option, some, none}
 use Prim.Native.Nat.{ℕ, zero, suc, _+_, _-_, _*_, _≤_, _<_}
@@ -11,14 +10,14 @@ use lib.ListN.{length, getD, set, length-append}
 use lib.Seq.{getD-set-same, getD-set-other}
 use lib.Ieee.{Float, nan}
 use Rattle.errors.specs.Answer.{Answer, result, refusal}
-use Rattle.runs.specs.Run.{Move, ends, goes, pays, Ending, ended, spent, Out, out, under, whole}
+use Rattle.runs.specs.Run.{Move, pays, Ending, ended, spent, Out, out, under, whole}
 use Rattle.runs.proofs.RunLaws.{whole-ends, whole-goes, whole-pays, whole-spent}
 use Rattle.inscribed.specs.Store.{circleAt, circlesOf, stored}
 use Rattle.inscribed.specs.Parts.{withCircle}
 use Rattle.inscribed.specs.declared.Inscribed.{Inscribed}
 use Rattle.inscribed.proofs.StoreLaws.{stored-push, stored-again, circle-of-stored, length-circles}
 use Rattle.halving.specs.Trial.{trial}
-use Rattle.refine.specs.Machine.{State, refining, advancing, over, circlesIn, End, finished, lastOf, afterTrial, refineMove, measure}
+use Rattle.refine.specs.Machine.{State, refining, over, circlesIn, End, finished, lastOf, afterTrial, refineMove, measure}
 use Rattle.refine.specs.Report.{Report, reported}
 use Rattle.refine.specs.Refinement.{refineStep, refineRun}
 use Rattle.refine.proofs.MachineLaws.{refine-falls}

@@ -1,28 +1,28 @@
 -- Demand 3 of refinements. Assumes nothing.
-use mathlib.Core.Path.{_≡_, refl, sym, ap, _∙_}
+use mathlib.Core.Path.{_≡_, refl, ap}
 use mathlib.Core.Bool.{Bool, true, false, cond}
 use mathlib.Core.List.{List, [], _∷_, _++_}
-use mathlib.Core.Logic.{_⊎_, inl, inr, ⊎-elim}
-use Prim.Native.Nat.{ℕ, zero, suc, _+_, _-_, _*_, _/_, _≤_, _<_, min}
+use mathlib.Core.Logic.{_⊎_, inl, ⊎-elim}
+use Prim.Native.Nat.{ℕ, suc, _+_, _-_, _*_, _≤_}
 use native.Mathlib.Omega.{arith}
 use borrow.Author.Tests.{ltb-false}
 use lib.Dec.{leb}
-use lib.ListN.{length, take, drop, length-append}
+use lib.ListN.{length, drop, length-append}
 use lib.Seq.{drop-append-le}
 use lib.Ieee.{Float}
 use Rattle.errors.specs.Answer.{Answer, result, refusal}
 use Rattle.curve2.specs.Entry.{HasPoints}
 use Rattle.curve2.proofs.Laws.{entry-passed, entry-room}
-use Rattle.runs.specs.Run.{Move, ends, goes, pays, Ending, ended, spent, Out, under, never, whole}
+use Rattle.runs.specs.Run.{Move, ends, goes, under, never, whole}
 use Rattle.runs.proofs.LimitLaws.{run-holds, ended-step}
 use Rattle.inscribed.specs.Store.{slots, circlesOf}
 use Rattle.inscribed.specs.declared.Inscribed.{Inscribed}
 use Rattle.inscribed.proofs.StoreLaws.{length-circles}
 use Rattle.refine.specs.Machine.{State, refining, advancing, over, circlesIn, End, finished, refineMove, measure}
-use Rattle.refine.specs.Report.{Report, reported, refusedOnEntry}
+use Rattle.refine.specs.Report.{reported}
 use Rattle.refine.specs.Refinement.{refineStep, Offer, refineEntry, offeredRun, afterEntry, refinement, refineOf, plainRefinement, acceptedAfter, accepted}
-use Rattle.refine.specs.Law.{Settled, LimitLaw, OfferedLast}
-use Rattle.refine.proofs.MachineLaws.{refine-grows, Sound, refine-sound-goes, refine-sound-pays, Offered, Kept, refine-offered-goes, refine-offered-pays}
+use Rattle.refine.specs.Law.{LimitLaw, OfferedLast}
+use Rattle.refine.proofs.MachineLaws.{refine-grows, Sound, refine-sound-goes, refine-sound-pays, Kept, refine-offered-goes, refine-offered-pays}
 use Rattle.refine.proofs.LawOfRuns.{oldLast, entry-law, run-law, short-settled, short-last}
 
 pub within-slots : (ns : List Float) (count : ℕ) → count ≤ slots ns → 7 * count ≤ length ns

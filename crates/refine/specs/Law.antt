@@ -3,10 +3,10 @@
 use mathlib.Core.Path.{_≡_}
 use mathlib.Core.List.{List, [], _∷_, _++_}
 use mathlib.Core.Option.{none}
-use Prim.Native.Nat.{ℕ, zero, suc, _+_, _*_, _≤_, _<_, min}
+use Prim.Native.Nat.{ℕ, _+_, _*_, _≤_, _<_, min}
 use lib.ListN.{length, take, drop}
 use lib.Ieee.{Float}
-use Rattle.errors.specs.Answer.{Answer, result}
+use Rattle.errors.specs.Answer.{result}
 use Rattle.runs.specs.Run.{ended, spent}
 use Rattle.inscribed.specs.Store.{width, allNumbers}
 use Rattle.halving.specs.Trial.{trial}

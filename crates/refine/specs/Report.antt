@@ -3,11 +3,10 @@ use mathlib.Core.List.{List}
 use Prim.Native.Nat.{ℕ}
 use lib.ListN.{length}
 use lib.Ieee.{Float}
-use Rattle.errors.specs.Answer.{Answer, result, refusal}
+use Rattle.errors.specs.Answer.{refusal}
 use Rattle.errors.specs.Refusals.{numberOf}
 use Rattle.runs.specs.Run.{Ending, ended, spent, Out}
 use Rattle.inscribed.specs.Store.{stored}
-use Rattle.inscribed.specs.declared.Inscribed.{Inscribed}
 use Rattle.refine.specs.Machine.{State, circlesIn, End, finished}
 use Rattle.refine.specs.declared.RunEnd.{RunEnd}
 use Rattle.refine.specs.declared.Run.{Run}

@@ -12,7 +12,7 @@ ghost use lib.ListN.{length};
 ghost use Rattle.curve2.specs.Entry.{HasPoints, listedEntry};
 ghost use Rattle.runs.specs.Run.{under};
 ghost use Rattle.inscribed.specs.Store.{circlesOf, badCircle, badStore};
-ghost use Rattle.refine.specs.Report.{reported, listedRun};
+ghost use Rattle.refine.specs.Report.{reported, listedRun, endNumber};
 ghost use Rattle.refine.specs.Refinement.{badGeneral, refineRun, refineEntry, refineOf};
 
 // How a run ends: finished, spent, or refused.
@@ -28,6 +28,17 @@ pub struct Run {
     pub end: RunEnd,
     pub count: usize,
     pub units: u32,
+}
+
+// The number of an ending: 0 for a finished run, 14 for a spent one.
+pub fn end_number(end: RunEnd) -> u32
+    ensures { λ r. ⌜ r ≡ endNumber end ⌝ }
+{
+    match end {
+        RunEnd::Finished => 0,
+        RunEnd::Spent => 14,
+        RunEnd::Refused(r) => errors::number(r),
+    }
 }
 
 // A run that ends in a refusal.

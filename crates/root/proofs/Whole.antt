@@ -1,11 +1,10 @@
 -- Roots of whole numbers: `wholeRoot` is the root, and there is one. Assumes nothing.
-use mathlib.Core.Path.{_≡_, refl, sym, ap, _∙_, subst}
+use mathlib.Core.Path.{_≡_}
 use mathlib.Core.Bool.{Bool, true, false, not, cond}
-use Prim.Native.Nat.{ℕ, zero, suc, _+_, _-_, _*_, _/_, _^_, _≤_, _<_}
-use native.Mathlib.Nat.{le-antisymm, lt-of-lt-of-le, mul-le-mul, lt-of-not-le, not-le-of-lt, le-of-suc-le-suc, pow-suc, le-trans, mul-le-mul-left}
+use Prim.Native.Nat.{ℕ, zero, suc, _-_, _*_, _/_, _^_, _≤_, _<_}
+use native.Mathlib.Nat.{le-antisymm, lt-of-lt-of-le, mul-le-mul, lt-of-not-le, not-le-of-lt, le-of-suc-le-suc, pow-suc, le-trans}
 use native.Mathlib.Omega.{arith}
 use lib.Dec.{T, leb, leb→le, nleb→lt}
-use lib.Pow.{pow-mono, pow-pos}
 use lib.Ieee.{size}
 use lib.Ieee.Digits.{size-lt}
 use Rattle.root.specs.Whole.{IsRoot, rootDigits, wholeRoot}

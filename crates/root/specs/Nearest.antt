@@ -1,11 +1,9 @@
 -- What it means that r is the correctly rounded root of x, a finite value above zero: r is nearer to √x than any other value of binary64 is, of either sign.
 -- It is said over whole numbers: in units of 2 ^ -1074, √x lies strictly on r's side of the middle of r and the other value. Assumes nothing.
-use mathlib.Core.Path.{_≡_}
-use mathlib.Core.Bool.{true, false, cond}
+use mathlib.Core.Bool.{true, false}
 use Prim.Native.Nat.{ℕ, _+_, _-_, _*_, _^_, _<_}
 use lib.Dec.{T}
 use lib.Ieee.{Float, nan, inf, fin, low, binary64, fits}
-use lib.Ieee.Scale.{finite}
 use Rattle.root.specs.Sqrt.{inUnits}
 
 -- a finite value's magnitude in units

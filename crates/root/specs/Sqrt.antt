@@ -3,7 +3,7 @@
 use Prim.Native.Nat.{ℕ, zero, suc, _+_, _-_, _*_, _/_, _^_, compare}
 use mathlib.Core.Bool.{true, false}
 use lib.IntN.{ℤ}
-use lib.Ieee.{Float, nan, inf, fin, Format, prec, low, up, down, binary64, size, nearest, units}
+use lib.Ieee.{Float, nan, inf, fin, prec, low, up, down, binary64, size, nearest, units}
 use Rattle.root.specs.Whole.{wholeRoot}
 
 -- How many units the value m * 2 ^ e is.

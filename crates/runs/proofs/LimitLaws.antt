@@ -1,12 +1,11 @@
 -- What a limit does to a run: it may cut it short and never alters it. For any machine whose states only grow. Assumes nothing.
-use mathlib.Core.Path.{_≡_, refl, sym, ap, _∙_, subst}
+use mathlib.Core.Path.{_≡_, refl, sym, ap, _∙_}
 use mathlib.Core.Bool.{Bool, true, false, cond}
 use mathlib.Core.Logic.{_⊎_, inl, inr, ⊎-elim}
-use Prim.Native.Nat.{ℕ, zero, suc, _+_, _≤_, _<_, min}
+use Prim.Native.Nat.{ℕ, zero, suc, _≤_, _<_, min}
 use native.Mathlib.Omega.{arith}
 use borrow.Author.Tests.{leb-true, leb-false, le-leb}
-use lib.Dec.{leb}
-use Rattle.runs.specs.Run.{Move, ends, goes, pays, Ending, ended, spent, unfinished, Out, out, under, never, next, run, whole}
+use Rattle.runs.specs.Run.{Move, ends, goes, pays, ended, spent, unfinished, Out, out, under, never, next, run, whole}
 use Rattle.runs.proofs.RunLaws.{Falls, run-zero, run-step}
 
 -- a relation of states that each step keeps: `Part s t` says that s is a first part of t

@@ -1,9 +1,9 @@
 -- A run ends, whatever fuel it is given beyond its measure, and each state's move says what the rest of the run is. Assumes nothing.
 use mathlib.Core.Path.{_≡_, refl, sym, ap, _∙_}
 use mathlib.Core.Bool.{Bool, true, false, cond}
-use Prim.Native.Nat.{ℕ, zero, suc, _+_, _≤_, _<_}
+use Prim.Native.Nat.{ℕ, zero, suc, _<_}
 use native.Mathlib.Omega.{arith}
-use Rattle.runs.specs.Run.{Move, ends, goes, pays, Ending, ended, spent, unfinished, Out, out, next, run, whole}
+use Rattle.runs.specs.Run.{Move, ends, goes, pays, ended, spent, unfinished, Out, out, next, run, whole}
 
 -- each step from a state leads to one with a smaller measure
 abbrev pub Falls : {S E : Type 0} → (S → Move S E) → (S → ℕ) → Type 0

@@ -1,9 +1,9 @@
 -- A machine that goes on where another ends: as long as both make the same moves, the run of the one is that of the other, and then goes on. Assumes nothing.
-use mathlib.Core.Path.{_≡_, refl, sym, ap, _∙_}
+use mathlib.Core.Path.{_≡_, refl, ap, _∙_}
 use mathlib.Core.Bool.{Bool, true, false, cond}
-use Prim.Native.Nat.{ℕ, zero, suc, _+_, _≤_, _<_}
+use Prim.Native.Nat.{ℕ, zero, suc}
 use native.Mathlib.Omega.{arith}
-use Rattle.runs.specs.Run.{Move, ends, goes, pays, Ending, ended, spent, unfinished, Out, out, next, run, whole}
+use Rattle.runs.specs.Run.{Move, ends, goes, pays, ended, spent, unfinished, Out, out, next, run, whole}
 use Rattle.runs.proofs.RunLaws.{Falls, run-zero, run-step, whole-ends, whole-goes, whole-pays, whole-spent}
 
 -- `Same s`: from s on the first machine stays among such states, and at each of them the second makes the same move, unless the first ends with `e`

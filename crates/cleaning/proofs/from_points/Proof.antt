@@ -5,7 +5,7 @@ use native.Mathlib.Omega.{arith}
 use borrow.Author.Tests.{lt-ltb, le-ltb}
 use lib.ListN.{length}
 use Rattle.cleaning.proofs.Keeping.{made-refused}
-use Rattle.cleaning.specs.Cleaning.{cleaned, curveOf}
+use Rattle.cleaning.specs.Cleaning.{cleaned}
 use Rattle.curve2.proofs.Laws.{count-even, count-least}
 use Rattle.errors.proofs.Laws.{told}
 use Rattle.cleaning.proofs.from_points.Statement.{statement}
@@ -39,22 +39,15 @@ returns-4 : tie.Need-returns-4
 unfolding cleaned
 returns-4 c = made-refused _ _ _ (rw (told (c .before .before .before .before .before .before .is-bad-count .ensures) (c .before .before .before .before .before .if1 .left), told (c .before .before .before .before .has-bad-number .ensures) (c .before .before .before .if2 .left), told (c .before .before .is-bad-tolerance .ensures) (c .before .if3 .left), lt-ltb (length (c .before .before .before .before .before .before .before .before .before .args .out .now)) (length (c .before .before .before .before .before .before .before .before .before .args .points .now) + 2) (omega arith)))
 
-is-too-few-requires : tie.Need-is-too-few-requires
-is-too-few-requires c κs = let e = told (c .before .before .before .before .before .before .is-bad-count .ensures) (c .before .before .before .before .before .if1 .left) in (count-even 4095 _ e, omega (arith, count-least 4095 (length (c .before .before .before .before .before .before .before .before .before .args .points .now)) e))
-
-returns-5 : tie.Need-returns-5
-unfolding cleaned curveOf
-returns-5 c = made-refused _ _ _ (rw (told (c .before .before .before .before .before .before .before .before .is-bad-count .ensures) (c .before .before .before .before .before .before .before .if1 .left), told (c .before .before .before .before .before .before .has-bad-number .ensures) (c .before .before .before .before .before .if2 .left), told (c .before .before .before .before .is-bad-tolerance .ensures) (c .before .before .before .if3 .left), le-ltb (length (c .before .before .before .before .before .before .before .before .before .before .before .args .out .now)) (length (c .before .before .before .before .before .before .before .before .before .before .before .args .points .now) + 2) (omega arith), told (c .before .is-too-few .ensures) (c .if5 .taken)))
-
-clean-requires : tie.Need-clean-requires
-clean-requires c κs = let e = told (c .before .before .before .before .before .before .before .before .before .is-bad-count .ensures) (c .before .before .before .before .before .before .before .before .if1 .left) in (count-even 4095 _ e, (omega (arith, count-least 4095 (length (c .before .before .before .before .before .before .before .before .before .before .before .before .args .points .now)) e), c .before .before .before .if4 .left))
+clean-points-requires : tie.Need-clean-points-requires
+clean-points-requires c κs = let e = told (c .before .before .before .before .before .before .before .is-bad-count .ensures) (c .before .before .before .before .before .before .if1 .left) in (count-even 4095 _ e, (omega (arith, count-least 4095 (length (c .before .before .before .before .before .before .before .before .before .before .args .points .now)) e), c .before .if4 .left))
 
 same-length : tie.Need-same-length
 same-length c = search needs
 
-returns-6 : tie.Need-returns-6
-unfolding cleaned curveOf
-returns-6 c = rw (told (c .before .before .before .before .before .before .before .before .before .before .before .before .is-bad-count .ensures) (c .before .before .before .before .before .before .before .before .before .before .before .if1 .left), told (c .before .before .before .before .before .before .before .before .before .before .has-bad-number .ensures) (c .before .before .before .before .before .before .before .before .before .if2 .left), told (c .before .before .before .before .before .before .before .before .is-bad-tolerance .ensures) (c .before .before .before .before .before .before .before .if3 .left), le-ltb (length (c .before .before .before .before .before .before .before .before .before .before .before .before .before .before .before .args .out .now)) (length (c .before .before .before .before .before .before .before .before .before .before .before .before .before .before .before .args .points .now) + 2) (omega arith), told (c .before .before .before .before .before .is-too-few .ensures) (c .before .before .before .before .if5 .left)) (c .before .before .clean .ensures)
+returns-5 : tie.Need-returns-5
+unfolding cleaned
+returns-5 c = rw (told (c .before .before .before .before .before .before .before .before .before .before .is-bad-count .ensures) (c .before .before .before .before .before .before .before .before .before .if1 .left), told (c .before .before .before .before .before .before .before .before .has-bad-number .ensures) (c .before .before .before .before .before .before .before .if2 .left), told (c .before .before .before .before .before .before .is-bad-tolerance .ensures) (c .before .before .before .before .before .if3 .left), le-ltb (length (c .before .before .before .before .before .before .before .before .before .before .before .before .before .args .out .now)) (length (c .before .before .before .before .before .before .before .before .before .before .before .before .before .args .points .now) + 2) (omega arith)) (c .before .before .clean-points .ensures)
 
 pub from-points-spec : {M : Type 1} → statement M
 from-points-spec =
@@ -68,8 +61,6 @@ from-points-spec =
     returns-3
     add-if4
     returns-4
-    is-too-few-requires
-    returns-5
-    clean-requires
+    clean-points-requires
     same-length
-    returns-6)
+    returns-5)

@@ -1,13 +1,12 @@
 -- `insert` moves each number from t's place on one place later. Assumes nothing.
 use Prim.Native.Nat.{_+_, _≤_, _<_, _-_}
-use mathlib.Core.Path.{_≡_, refl, sym, ap, _∙_}
+use mathlib.Core.Path.{_≡_, refl}
 use mathlib.Core.List.{_++_}
 use native.Mathlib.Omega.{arith}
 use borrow.Author.Needs.{needs}
 use lib.ListN.{length, take, drop, getD, length-set}
 use lib.Ieee.{nan}
 use Rattle.joined.proofs.Laws.{spread, place-within, spread-start, spread-at, spread-next, spread-set, spread-end}
-use Rattle.joined.specs.Fractions.{placeOf}
 use Rattle.joined.proofs.insert.Statement.{statement}
 use Rattle.joined.proofs.insert.Tie as tie
 

@@ -1,11 +1,11 @@
 -- `kept_hits` keeps those that aren't near the last kept one. Assumes nothing.
-use Prim.Native.Nat.{_+_, _≤_, _-_}
-use mathlib.Core.Path.{_≡_, refl, sym, _∙_}
+use Prim.Native.Nat.{_≤_, _-_}
+use mathlib.Core.Path.{_≡_, _∙_}
 use mathlib.Core.Logic.{⊎-elim}
 use native.Mathlib.Omega.{arith}
 use borrow.Author.Needs.{needs}
 use borrow.Author.Tests.{not-true, not-false}
-use lib.ListN.{length, take, drop}
+use lib.ListN.{take, drop}
 use Rattle.joined.proofs.Laws.{kept-start, kept-dropped, kept-more, kept-end}
 use Rattle.joined.specs.Fractions.{keptAfter, keptOf}
 use Rattle.errors.proofs.Laws.{told}

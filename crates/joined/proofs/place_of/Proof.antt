@@ -3,7 +3,7 @@ use Prim.Native.Nat.{_+_, _≤_, _-_}
 use mathlib.Core.Path.{_≡_, sym}
 use native.Mathlib.Nat.{zero-add}
 use native.Mathlib.Omega.{arith}
-use lib.ListN.{length, take, drop}
+use lib.ListN.{take, drop}
 use Rattle.joined.proofs.Laws.{place-found, place-passed, place-end}
 use Rattle.joined.specs.Fractions.{placeOf}
 use Rattle.joined.proofs.place_of.Statement.{statement}

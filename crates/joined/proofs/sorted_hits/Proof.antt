@@ -1,7 +1,6 @@
 -- `sorted_hits` goes over every edge and puts each hit in its place. There are no more hits than edges. Assumes nothing.
-use Prim.Native.Nat.{ℕ, _+_, _%_, _/_, _≤_, _-_}
-use mathlib.Core.Path.{_≡_, refl, ap, _∙_}
-use mathlib.Core.List.{[]}
+use Prim.Native.Nat.{_+_, _%_, _/_, _≤_, _-_}
+use mathlib.Core.Path.{_≡_, refl, ap}
 use mathlib.Core.Logic.{⊎-elim}
 use native.Mathlib.Omega.{arith}
 use borrow.Author.Needs.{needs}

@@ -1,6 +1,6 @@
 -- `refine_and_push` makes the entry tests, and then refines. Assumes nothing.
 use borrow.Author.Needs.{needs}
-use mathlib.Core.Path.{sym, _≡_}
+use mathlib.Core.Path.{sym}
 use native.Mathlib.Omega.{arith}
 use Rattle.refine.specs.Refinement.{refinement}
 use Rattle.refine.proofs.RefinementLaw.{entry-points, entry-count}

@@ -1,77 +1,22 @@
-use mathlib.Core.Path.{_≡_, refl}
-use Prim.Native.Nat.{ℕ, _+_, _*_, _≤_, _<_, _-_}
-use native.Mathlib.Omega.{arith}
-use lib.ListN.{length}
+-- `reverse_order` turns order and contacts. Assumes nothing.
+use mathlib.Core.Path.{_∙_}
+use Rattle.turning.proofs.Laws.{turn-both}
 use borrow.Author.Needs.{needs}
-use Rattle.turning.proofs.Laws.{Turning, turn-start, turn-step, turn-over}
-use Rattle.turning.specs.Turned.{turned}
-use Rattle.inscribed.specs.Store.{circlesOf}
 use Rattle.turning.proofs.reverse_order.Statement.{statement}
 use Rattle.turning.proofs.reverse_order.Tie as tie
 
--- `reverse_order` turns order and contacts. Assumes nothing.
+reverse-order-only-requires : tie.Need-reverse-order-only-requires
+reverse-order-only-requires c κs = search needs
 
-abbrev Inv-loop : tie.InvT-loop
-Inv-loop store₀ count i₀ j₀ store i j = (j ≤ count) × (length store ≡ length store₀) × Turning store₀ (turned (circlesOf store₀ count)) store i j
-
-abbrev μ-loop : tie.MeasureT-loop
-μ-loop store₀ count i₀ j₀ store i j = j - i
-
-loop-holds : tie.Need-loop-holds Inv-loop μ-loop
-loop-holds c = (omega arith, refl, turn-start _ _ (omega (arith, c .before .pre)))
-
-sub-j : tie.Need-sub-j Inv-loop μ-loop
-sub-j c = omega arith
-
-circle-at-requires : tie.Need-circle-at-requires Inv-loop μ-loop
-circle-at-requires c κs = omega arith
-
-circle-at-requires-2 : tie.Need-circle-at-requires-2 Inv-loop μ-loop
-circle-at-requires-2 c κs = omega arith
-
-reverse-points-requires : tie.Need-reverse-points-requires Inv-loop μ-loop
+reverse-points-requires : tie.Need-reverse-points-requires
 reverse-points-requires c κs = search needs
 
-reverse-points-requires-2 : tie.Need-reverse-points-requires-2 Inv-loop μ-loop
-reverse-points-requires-2 c κs = search needs
+same-length : tie.Need-same-length
+same-length c = search needs
 
-put-circle-requires : tie.Need-put-circle-requires Inv-loop μ-loop
-put-circle-requires c κs = omega arith
-
-put-circle-requires-2 : tie.Need-put-circle-requires-2 Inv-loop μ-loop
-put-circle-requires-2 c κs = omega arith
-
-add-i : tie.Need-add-i Inv-loop μ-loop
-add-i c = omega (arith, c .before .before .before .before .before .before .before .before .before .before .before .before .before .before .loop-test .taken, c .before .before .before .before .before .before .before .before .before .before .before .before .before .before .before .loop .inv .0, c .before .before .before .before .before .before .before .before .before .before .before .before .before .before .before .before .before .good)
-
-loop-less : tie.Need-loop-less Inv-loop μ-loop
-loop-less c = omega arith
-
-loop-again : tie.Need-loop-again Inv-loop μ-loop
-loop-again c = (omega arith, omega arith, rw (c .before .before .put-circle2 .ensures, c .before .before .before .before .before .before .put-circle .ensures, c .before .before .before .before .before .before .before .before .reverse-points2 .ensures, c .before .before .before .before .before .before .before .before .before .reverse-points .ensures, c .before .before .before .before .before .before .before .before .before .before .circle-at2 .ensures, c .before .before .before .before .before .before .before .before .before .before .before .before .circle-at .ensures) (turn-step _ _ _ _ _ (c .before .before .before .before .before .before .before .before .before .before .before .before .before .before .before .loop .inv .2) (c .before .before .before .before .before .before .before .before .before .before .before .before .before .before .loop-test .taken)))
-
-same-length : tie.Need-same-length Inv-loop μ-loop
-same-length c = omega arith
-
-returns : tie.Need-returns Inv-loop μ-loop
-returns c = rw (← (turn-over _ _ _ _ _ (c .before .loop .inv .2) (omega arith)))
+returns : tie.Need-returns
+returns c = c .before .before .reverse-points .ensures ∙ turn-both _ _ _ (c .before .before .before .before .before .before .reverse-order-only .ensures)
 
 pub reverse-order-spec : {M : Type 1} → statement M
 reverse-order-spec =
-    tie.close
-    (tie.spec
-    Inv-loop
-    μ-loop
-    loop-holds
-    sub-j
-    circle-at-requires
-    circle-at-requires-2
-    reverse-points-requires
-    reverse-points-requires-2
-    put-circle-requires
-    put-circle-requires-2
-    add-i
-    loop-less
-    loop-again
-    same-length
-    returns)
+    tie.close (tie.spec reverse-order-only-requires reverse-points-requires same-length returns)

@@ -1,12 +1,12 @@
-use Prim.Native.Nat.{ℕ, _+_, _*_, _≤_, _<_, _-_}
-use mathlib.Core.Path.{_≡_, refl, sym, ap, _∙_}
+use Prim.Native.Nat.{_-_}
+use mathlib.Core.Path.{_≡_, refl, ap}
 use mathlib.Core.List.{[], _∷_}
 use native.Mathlib.Omega.{arith}
 use borrow.Author.Needs.{needs}
 use lib.ListN.{length}
-use Rattle.camber.proofs.MarchFrom.{Waits, Ready, waits-start, waits-ends, waits-grown, waits-ready, ready-ends, ready-next, spent-unfinished, refused-unfinished, finished-listed}
+use Rattle.camber.proofs.MarchFrom.{Waits, waits-start, waits-ends, waits-grown, waits-ready, ready-ends, ready-next, spent-unfinished, refused-unfinished, finished-listed}
 use Rattle.camber.specs.March.{marchRun}
-use Rattle.camber.specs.Outcome.{listedAdvanced}
+use Rattle.advance.specs.Outcome.{listedAdvanced}
 use Rattle.refine.specs.Report.{reported}
 use Rattle.refine.specs.Machine.{refining}
 use Rattle.runs.specs.Run.{under}

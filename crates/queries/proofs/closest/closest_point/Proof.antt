@@ -1,8 +1,8 @@
 -- `closest_point` begins with the first edge. Assumes nothing.
 use borrow.Author.Needs.{needs}
-use mathlib.Core.Path.{_∙_}
+use mathlib.Core.Path.{sym}
 use native.Mathlib.Omega.{arith}
-use Rattle.queries.proofs.ClosestLaws.{first-refused, first-nearest}
+use Rattle.queries.proofs.ClosestLaws.{first-refused}
 use Rattle.queries.proofs.closest.closest_point.Statement.{statement}
 use Rattle.queries.proofs.closest.closest_point.Tie as tie
 
@@ -13,13 +13,13 @@ enum-known-q : tie.Need-enum-known-q
 enum-known-q c = search needs
 
 closest-after-requires : tie.Need-closest-after-requires
-closest-after-requires c κs = search needs
+closest-after-requires c κs = (c .before .before .before .before .before .pre, sym (rw (c .before .q .given .1) at (c .before .before .before .closest-at .ensures)))
 
 enum-known-r : tie.Need-enum-known-r
 enum-known-r c = search needs
 
 returns : tie.Need-returns
-returns c = c .closest-after .ensures ∙ first-nearest _ _ (omega arith) _ (c .before .before .before .before .closest-at .ensures) _ (c .before .before .q .given .1)
+returns c = c .closest-after .ensures
 
 returns-2 : tie.Need-returns-2
 returns-2 c = first-refused _ _ (omega arith) _ (c .before .before .before .closest-at .ensures) _ (c .before .r .given .1)

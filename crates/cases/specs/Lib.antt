@@ -1,2 +1,0 @@
--- The worked cases.
-pub mod Worked

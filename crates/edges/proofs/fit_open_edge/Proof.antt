@@ -1,0 +1,55 @@
+-- `fit_open_edge` makes the entry tests, and then the fit. Assumes nothing.
+use mathlib.Core.Path.{sym}
+use native.Mathlib.Omega.{arith}
+use Rattle.edges.specs.Fit.{fitAfter}
+use Rattle.edges.proofs.FitLaws.{entry-points, entry-count}
+use borrow.Author.Needs.{needs}
+use Rattle.edges.proofs.fit_open_edge.Statement.{statement}
+use Rattle.edges.proofs.fit_open_edge.Tie as tie
+
+entered-requires : tie.Need-entered-requires
+entered-requires c κs = search needs
+
+enum-told : tie.Need-enum-told
+enum-told c = search needs
+
+slots-up-to-requires : tie.Need-slots-up-to-requires
+slots-up-to-requires c κs = search needs
+
+fit-requires : tie.Need-fit-requires
+fit-requires c κs = let e = sym (rw (c .before .before .enum-told .given .1) at (c .before .before .before .before .entered .ensures)) in (entry-points _ e, (omega (arith, entry-count _ e, c .before .slots-up-to .ensures), omega (arith, c .before .slots-up-to .ensures)))
+
+enum-known-r : tie.Need-enum-known-r
+enum-known-r c = search needs
+
+refused-requires : tie.Need-refused-requires
+refused-requires c κs = search needs
+
+same-length : tie.Need-same-length
+same-length c = search needs
+
+returns : tie.Need-returns
+unfolding fitAfter
+returns c = rw (← (rw (c .before .before .before .before .before .enum-told .given .1) at (c .before .before .before .before .before .before .before .entered .ensures)), ← (c .before .before .before .before .slots-up-to .ensures)) (c .before .before .fit .ensures)
+
+same-length-2 : tie.Need-same-length-2
+same-length-2 c = search needs
+
+returns-2 : tie.Need-returns-2
+unfolding fitAfter
+returns-2 c = rw (← (rw (c .before .before .r .given .1) at (c .before .before .before .before .entered .ensures)), c .refused .ensures)
+
+pub fit-open-edge-spec : {M : Type 1} → statement M
+fit-open-edge-spec =
+    tie.close
+    (tie.spec
+    entered-requires
+    enum-told
+    slots-up-to-requires
+    fit-requires
+    enum-known-r
+    refused-requires
+    same-length
+    returns
+    same-length-2
+    returns-2)

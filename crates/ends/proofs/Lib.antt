@@ -1,0 +1,2 @@
+-- The last two circles of a store.
+pub mod Laws

@@ -1,0 +1,2 @@
+-- The last point of a section.
+pub mod Laws

@@ -1,0 +1,2 @@
+-- Camber curves.
+pub mod Camber

@@ -1,0 +1,157 @@
+// Camber curves: through the centres of the circles in a store, alone or between two end points.
+use cleaning::CurveAnswer;
+use curve2::Entry;
+use errors::Refusal;
+use points::Point2;
+ghost use mathlib.Core.Path.{_≡_};
+ghost use mathlib.Core.Bool.{false, _||_};
+ghost use mathlib.Core.List.{_∷_, [], _++_};
+ghost use Prim.Native.Nat.{_+_, _*_, _≤_};
+ghost use lib.ListN.{length};
+ghost use Rattle.curve2.specs.Entry.{listedEntry};
+ghost use Rattle.cleaning.specs.Cleaning.{curveOf, Made};
+ghost use Rattle.geometry.specs.Camber.{centers, badPoint, badCenters, camberEntry, camberCurve, camberCurveBetween, putAll};
+
+// A point with a coordinate that isn't finite or lies beyond 1,000,000.
+fn is_bad_point(p: Point2) -> bool
+    ensures { λ r. ⌜ r ≡ badPoint p ⌝ }
+{
+    let x = p.x;
+    let y = p.y;
+    if curve2::is_in_range(x) {
+        return !curve2::is_in_range(y);
+    }
+    true
+}
+
+// Whether one of two end points is a bad point.
+fn has_bad_end(le_point: Point2, te_point: Point2) -> bool
+    ensures { λ r. ⌜ r ≡ (badPoint «le_point» || badPoint «te_point») ⌝ }
+{
+    if is_bad_point(le_point) {
+        return true;
+    }
+    is_bad_point(te_point)
+}
+
+// Whether a centre in use, as far as the store holds them, is a bad point.
+pub fn has_bad_center(store: &[f64], count: usize) -> bool
+    ensures { λ r. ⌜ r ≡ badCenters (now (store .entry)) count ⌝ }
+{
+    let n = inscribed::store::least(count, inscribed::store::slots_up_to(1024, store.len()));
+    let mut k: usize = 0;
+    while k < n {
+        let c = inscribed::store::circle_at(store, k);
+        let p = c.center();
+        if is_bad_point(p) {
+            return true;
+        }
+        k += 1;
+    }
+    false
+}
+
+// The entry tests, with whether one of the end points is bad, how many they are, and the output's length.
+fn entered(store: &[f64], count: usize, tol: f64, bad_end: bool, ends: usize, room: usize) -> Entry
+    requires { ⌜ ends ≤ 2 ⌝ }
+    ensures { λ r. ⌜ listedEntry r ≡ camberEntry (now (store .entry)) count tol «bad_end» ends room ⌝ }
+{
+    if inscribed::store::has_bad_circle(store, count) {
+        return Entry::Refused(Refusal::BadNumber);
+    }
+    if has_bad_center(store, count) {
+        return Entry::Refused(Refusal::BadNumber);
+    }
+    if bad_end {
+        return Entry::Refused(Refusal::BadNumber);
+    }
+    if curve2::is_bad_tolerance(tol) {
+        return Entry::Refused(Refusal::Tolerance);
+    }
+    if inscribed::store::is_bad_store_count(store, count) {
+        return Entry::Refused(Refusal::NoRoom);
+    }
+    let points = count + ends;
+    if room < 2 * points + 2 {
+        return Entry::Refused(Refusal::NoRoom);
+    }
+    if points < 2 {
+        return Entry::Refused(Refusal::TooFewKept);
+    }
+    Entry::Passed
+}
+
+// Puts the centres of the first circles one after the other, the first at place `first`.
+fn put_centers(store: &[f64], count: usize, points: &mut [f64], first: usize)
+    requires { ⌜ (count * 7 ≤ length (now store)) × (2 * (first + count) ≤ length (now points)) ⌝ }
+    ensures { λ _. ⌜ now (points .exit) ≡ putAll first (centers (now (store .entry)) count) (now (points .entry)) ⌝ }
+{
+    let mut k: usize = 0;
+    while k < count {
+        let c = inscribed::store::circle_at(store, k);
+        let p = c.center();
+        cleaning::put(points, first + k, p);
+        k += 1;
+    }
+}
+
+// The curve through the centres of a store whose count and output have been tested: 5 where fewer than two are kept.
+pub fn centers_curve(store: &[f64], count: usize, tol: f64, out: &mut [f64]) -> CurveAnswer
+    requires { ⌜ (count * 7 ≤ length (now store)) × (1 ≤ count) × (count ≤ 1024) ⌝ }
+    requires { ⌜ 2 * count + 2 ≤ length (now out) ⌝ }
+    ensures { λ r. ⌜ Made (curveOf tol false (centers (now (store .entry)) count)) tol (now (out .entry)) (now (out .exit)) r ⌝ }
+{
+    let mut points = [0.0; 2052];
+    put_centers(store, count, &mut points, 0);
+    let n = 2 * count;
+    cleaning::clean_points(&points[..n], tol, false, out)
+}
+
+// The same between two end points.
+fn curve_between(
+    le_point: Point2,
+    te_point: Point2,
+    store: &[f64],
+    count: usize,
+    tol: f64,
+    out: &mut [f64],
+) -> CurveAnswer
+    requires { ⌜ (count * 7 ≤ length (now store)) × (count ≤ 1024) ⌝ }
+    requires { ⌜ 2 * (count + 2) + 2 ≤ length (now out) ⌝ }
+    ensures { λ r. ⌜ Made (curveOf tol false («le_point» ∷ (centers (now (store .entry)) count ++ («te_point» ∷ [])))) tol (now (out .entry)) (now (out .exit)) r ⌝ }
+{
+    let mut points = [0.0; 2052];
+    cleaning::put(&mut points, 0, le_point);
+    put_centers(store, count, &mut points, 1);
+    cleaning::put(&mut points, 1 + count, te_point);
+    let n = 2 * (count + 2);
+    cleaning::clean_points(&points[..n], tol, false, out)
+}
+
+// The curve through the centres of the circles in use, cleaned. The output keeps what stands behind it.
+pub fn camber_curve(store: &[f64], count: usize, tol: f64, out: &mut [f64]) -> CurveAnswer
+    ensures { λ r. ⌜ Made (camberCurve (now (store .entry)) count tol (length (now (out .entry)))) tol (now (out .entry)) (now (out .exit)) r ⌝ }
+{
+    match entered(store, count, tol, false, 0, out.len()) {
+        Entry::Passed => centers_curve(store, count, tol, out),
+        Entry::Refused(r) => CurveAnswer::Refused(r),
+    }
+}
+
+// The same from the leading edge point to the trailing edge point.
+pub fn make_camber_curve(
+    le_point: Point2,
+    te_point: Point2,
+    store: &[f64],
+    count: usize,
+    tol: f64,
+    out: &mut [f64],
+) -> CurveAnswer
+    ensures { λ r. ⌜ Made (camberCurveBetween «le_point» «te_point» (now (store .entry)) count tol (length (now (out .entry)))) tol (now (out .entry)) (now (out .exit)) r ⌝ }
+{
+    let bad = has_bad_end(le_point, te_point);
+    match entered(store, count, tol, bad, 2, out.len()) {
+        Entry::Passed => curve_between(le_point, te_point, store, count, tol, out),
+        Entry::Refused(r) => CurveAnswer::Refused(r),
+    }
+}

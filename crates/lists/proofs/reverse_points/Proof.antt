@@ -1,0 +1,44 @@
+-- `reverse_points` swaps the contacts in a store that passed the entry tests. Assumes nothing.
+use mathlib.Core.List.{map}
+use Rattle.inscribed.specs.Circles.{reversedPoints}
+use Rattle.lists.proofs.Laws.{store-passed, changed-passed, changed-refused}
+use borrow.Author.Needs.{needs}
+use Rattle.lists.proofs.reverse_points.Statement.{statement}
+use Rattle.lists.proofs.reverse_points.Tie as tie
+
+check-store-requires : tie.Need-check-store-requires
+check-store-requires c κs = search needs
+
+enum-told : tie.Need-enum-told
+enum-told c = search needs
+
+reverse-points-requires : tie.Need-reverse-points-requires
+reverse-points-requires c κs = store-passed _ _ _ (c .before .before .before .check-store .ensures) (c .before .enum-told .given .1) .0
+
+enum-known-r : tie.Need-enum-known-r
+enum-known-r c = search needs
+
+same-length : tie.Need-same-length
+same-length c = search needs
+
+returns : tie.Need-returns
+returns c = changed-passed (map reversedPoints) _ _ _ (c .before .before .before .before .before .before .check-store .ensures) (c .before .before .before .before .enum-told .given .1) _ (c .before .before .reverse-points .ensures)
+
+same-length-2 : tie.Need-same-length-2
+same-length-2 c = search needs
+
+returns-2 : tie.Need-returns-2
+returns-2 c = changed-refused (map reversedPoints) _ _ _ (c .before .before .before .check-store .ensures) _ (c .before .r .given .1)
+
+pub reverse-points-spec : {M : Type 1} → statement M
+reverse-points-spec =
+    tie.close
+    (tie.spec
+    check-store-requires
+    enum-told
+    reverse-points-requires
+    enum-known-r
+    same-length
+    returns
+    same-length-2
+    returns-2)

@@ -1,0 +1,3 @@
+-- Orientation: what each case decides, and what the store is afterwards.
+pub mod Checks
+pub mod Orientation

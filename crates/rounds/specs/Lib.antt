@@ -1,0 +1,3 @@
+-- The rounds of a fit into the gap of a section.
+pub mod Rounds
+pub mod Reached

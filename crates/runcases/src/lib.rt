@@ -1,0 +1,3 @@
+// Worked cases of counted runs, for the program `cases` to run.
+pub mod limits;
+pub mod stores;

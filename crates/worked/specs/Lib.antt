@@ -1,0 +1,2 @@
+-- The sums done by hand.
+pub mod Worked

@@ -1,0 +1,258 @@
+-- The sums done by hand that are marked P: one row each, and one claim for all of them. Assumes nothing.
+use mathlib.Core.Path.{_≡_, refl}
+use mathlib.Core.Bool.{Bool, true, false}
+use mathlib.Core.List.{List, [], _∷_}
+use Prim.Native.Nat.{ℕ, zero, suc}
+use lib.Count.{trailingZeros}
+use lib.Ieee.{Float, binary64, ofBits, ofFields, odd, units, round, size, span, climb, neg, sum, add, sub, mul, div, lt, eq, le}
+use Rattle.errors.specs.Answer.{Answer, result, refusal, _>>=_}
+use Rattle.root.specs.Whole.{rootDigits, wholeRoot}
+use Rattle.root.specs.Sqrt.{rootOfUnits, sqrtOf}
+use Rattle.root.specs.Asked.{rootAsked}
+use Rattle.points.specs.Points.{dotOf, normOf, distOf, difference, normalized}
+use Rattle.points.specs.declared.Vector2.{Vector2}
+use Rattle.line2.specs.Lines.{lineOf, lineThrough, atParam, lineProjection}
+use Rattle.line2.specs.Intersection.{intersectionParam}
+use Rattle.line2.specs.declared.Line2.{Line2}
+use Rattle.curve2.specs.Section.{point, pointsOf, plainDist, isClosed, wholeFrom}
+use Rattle.curve2.specs.Entry.{badNumbers, notSpacedFrom, sectionEntry}
+use Rattle.cleaning.specs.Cleaning.{keptAfter, kept, lastOf, endsMeet, forcedClosed, curveOf, cleaned}
+use Rattle.queries.specs.Edges.{edgesOf}
+use Rattle.queries.specs.Hits.{edgeHit, hitsFrom, inserted, sortedInto, droppedAfter, dropped}
+use Rattle.queries.specs.Crossing.{spanOf, spanned, crossed, crossingWith}
+use Rattle.queries.specs.declared.Crossing.{Crossing}
+use Rattle.queries.specs.Nearest.{closestOnAll, leastOf, leastOfAll, nearestOf}
+use Rattle.segment2.specs.Closest.{fractionOn, heldPoint, measuredTo, closestOnEdge}
+use Rattle.stations.specs.Stations.{edgeDirection, meanDirection, vertexDirection, atVertex, station}
+use Rattle.stations.specs.Along.{insideEdge, atLengthFrom, atLength}
+use Rattle.inscribed.specs.Circles.{inscribed}
+use Rattle.halving.specs.Halving.{Ends, resolveTol, halved, between, isWide, halving, firstEnds, fromLine, fromCrossing}
+use Rattle.sections.specs.Asked.{atLengthAsked, crossingAsked, joinedAsked}
+use Rattle.inscribed.specs.Circles.{camberPoint}
+use Rattle.inscribed.specs.Store.{numbersOf, circleFrom, circlesFrom, allNumbers, stored, badCircle, anyBad}
+use Rattle.inscribed.specs.declared.Inscribed.{Inscribed}
+use Rattle.points.specs.Points.{midPointOf}
+use Rattle.line2.specs.Lines.{lineNormalized, rayNormalized, rayProjection, atDistance, shiftedRay, halfwayRay}
+use Rattle.halving.specs.Trial.{circleOn, tryInscribed, judged, trial}
+use Rattle.runs.specs.Run.{Ending, ended, spent, next, run, whole}
+use Rattle.refine.specs.Machine.{lastOf as lastCircle, afterTrial, refineMove, measure}
+use Rattle.refine.specs.Refinement.{refineStep}
+use Rattle.lists.specs.Lists.{lastCircle as lastInList, frontAndBack, tmaxFrom, tmax}
+use Rattle.lists.specs.Asked.{storeEntry, tmaxAsked}
+use Rattle.orient.specs.Checks.{centerDot, lessForward, dirFwd, voteOf, votesFrom, dirUpper}
+use Rattle.orient.specs.Orientation.{orientEntry, fwdAsked, upperAsked}
+use Rattle.orient.specs.declared.OrientFwdAft.the-variants.{Airflow, Fwd}
+use Rattle.orient.specs.declared.OrientUpperLower.the-variants.{Upper, Lower}
+use Rattle.ends.specs.Ends.{lastPair, middleLine, facedLine, clipLine, endCamberRay}
+use Rattle.gap.specs.Gap.{gapOf, capPoint, capIntersection, aheadOf, turnedTo, acrossRay, probeLine, probed}
+use Rattle.rounds.specs.Rounds.{FitEnd, movedPoint, afterMove, afterRefined, afterProbe, round as oneRound, onward, rounds}
+use Rattle.edges.specs.Fit.{EdgeInput, FitReport, edgeEntry, startOf, fitStart, fitFrom, fitReported, fitted, fitAfter, fitOf}
+
+-- what the definitions give, and what the sum says
+pub data Row : Type 1 where
+  row : {A : Type 0} → A → A → Row
+
+abbrev pub Holds : List Row → Type 0
+Holds [] = Unit {0}
+Holds (row given wanted ∷ rows) = (given ≡ wanted) × Holds rows
+
+-- ---- numbers
+
+abbrev f0 : Float
+f0 = ofBits binary64 0x0000000000000000
+
+abbrev f½ : Float
+f½ = ofBits binary64 0x3fe0000000000000
+
+abbrev f1 : Float
+f1 = ofBits binary64 0x3ff0000000000000
+
+abbrev f1½ : Float
+f1½ = ofBits binary64 0x3ff8000000000000
+
+abbrev f2 : Float
+f2 = ofBits binary64 0x4000000000000000
+
+abbrev f3 : Float
+f3 = ofBits binary64 0x4008000000000000
+
+abbrev f4 : Float
+f4 = ofBits binary64 0x4010000000000000
+
+abbrev f5 : Float
+f5 = ofBits binary64 0x4014000000000000
+
+abbrev f8 : Float
+f8 = ofBits binary64 0x4020000000000000
+
+abbrev f9 : Float
+f9 = ofBits binary64 0x4022000000000000
+
+abbrev f20 : Float
+f20 = ofBits binary64 0x4034000000000000
+
+abbrev f25 : Float
+f25 = ofBits binary64 0x4039000000000000
+
+abbrev f0·001 : Float
+f0·001 = ofBits binary64 0x3f50624dd2f1a9fc
+
+abbrev f0·01 : Float
+f0·01 = ofBits binary64 0x3f847ae147ae147b
+
+-- ---- inputs
+
+-- "R is (0,0) (8,0) (8,2) (0,2) (0,0), section tolerance 0.001"
+R : List Float
+R = f0 ∷ f0 ∷ f8 ∷ f0 ∷ f8 ∷ f2 ∷ f0 ∷ f2 ∷ f0 ∷ f0 ∷ []
+
+-- what P2 and P3 clean
+four : List Float
+four = f0 ∷ f0 ∷ f½ ∷ f0 ∷ f1 ∷ f0 ∷ f1½ ∷ f0 ∷ []
+
+two : List Float
+two = f0 ∷ f0 ∷ f½ ∷ f0 ∷ []
+
+line : Float → Float → Float → Float → Line2
+line ox oy dx dy = lineOf (point ox oy) (record { x = dx; y = dy })
+
+-- the ends of a crossing: its origin, and its direction
+crossing : Float → Float → Float → Float → Crossing
+unfolding line
+crossing ox oy dx dy = record { line = line ox oy dx dy }
+
+vector : Float → Float → Vector2
+vector x y = record { x = x; y = y }
+
+-- "U is R without its last point"
+U : List Float
+U = f0 ∷ f0 ∷ f8 ∷ f0 ∷ f8 ∷ f2 ∷ f0 ∷ f2 ∷ []
+
+-- a circle at (x, 1), "contacts straight below and above at y 0 and 2"
+circle : Float → Float → Inscribed
+circle x r = inscribed (point x f1) r (point x f0) (point x f2)
+
+-- what stands in a slot that isn't in use
+unused : Inscribed
+unused = inscribed (point f0 f0) f0 (point f0 f0) (point f0 f0)
+
+-- P9's two circles, and P10's
+pairOfU : List Float
+unfolding circle
+pairOfU = allNumbers (circle f4 f1 ∷ circle f5 f1 ∷ [])
+
+onAxis : List Float
+onAxis = allNumbers (inscribed (point f1 f0) f1 (point f1 (neg f1)) (point f1 f1) ∷ inscribed (point f5 f0) f1 (point f5 (neg f1)) (point f5 f1) ∷ [])
+
+-- the circles of P11 and P12 in a store of three slots
+edgeOfU : Bool → EdgeInput
+unfolding U circle unused
+edgeOfU atFront = record { section = U; sectionTol = f0·001; tol = f0·01; store = allNumbers (circle f4 f1 ∷ circle f5 f1 ∷ unused ∷ []); count = 2; atFront = atFront }
+
+report : Ending FitEnd → ℕ → ℕ → List Inscribed → FitReport
+report e count units cs = record { ending = e; count = count; units = units; store = allNumbers cs }
+
+-- 1.00048828125 and 0.99951171875
+abbrev high : Float
+high = ofBits binary64 0x3ff0020000000000
+
+abbrev narrow : Float
+narrow = ofBits binary64 0x3feffc0000000000
+
+-- ---- rows
+
+-- root of 25; of 2: "5; hexadecimal bits 3FF6A09E667F3BCD"
+P1 : Row
+P1 = row (rootAsked f25 ∷ rootAsked f2 ∷ []) (result f5 ∷ result (ofBits binary64 0x3FF6_A09E_667F_3BCD) ∷ [])
+
+-- clean (0,0) (0.5,0) (1,0) (1.5,0), tolerance 0.5, unforced: "(0,0) (1,0)"
+P2 : Row
+unfolding four
+P2 = row (cleaned four f½ false 10) (result (point f0 f0 ∷ point f1 f0 ∷ []))
+
+-- the first two of these: "5"
+P3 : Row
+unfolding two
+P3 = row (cleaned two f½ false 6) (refusal 5)
+
+-- R at length 9; 20; -0.5: "(8,1) edge 1 fraction 0.5; edge 3 fraction 1; 9". At 20 R is closed, so the direction is that of its first and last edge together.
+P4 : Row
+unfolding R vector
+P4 =
+    row
+    (atLengthAsked R f0·001 f9 ∷ atLengthAsked R f0·001 f20 ∷ atLengthAsked R f0·001 (neg f½) ∷ [])
+    (result (station (point f8 f1) (vector f0 f1) 1 f½) ∷ result (station (point f0 f0) (vector (ofBits binary64 0x3fe6a09e667f3bcc) (ofBits binary64 0xbfe6a09e667f3bcc)) 3 f1) ∷ refusal 9 ∷ [])
+
+-- R, line from (4,1) along (0,1): "(4,0) to (4,2)"
+P5 : Row
+unfolding R line crossing
+P5 = row (crossingAsked R f0·001 (line f4 f1 f0 f1)) (result (crossing f4 f0 f0 f2))
+
+-- R, from (4,1) along (4,1): "8; joined: (0,0) to (8,2)"
+P6 : Row
+unfolding R line crossing
+P6 =
+    row
+    (crossingAsked R f0·001 (line f4 f1 f4 f1) ∷ joinedAsked R f0·001 (line f4 f1 f4 f1) ∷ [])
+    (refusal 8 ∷ result (crossing f0 f0 f8 f2) ∷ [])
+
+-- the test of P7's loop before each of n halvings, and after the last
+tests : ℕ → Ends → Answer (List Bool)
+unfolding R line
+tests zero e = result (isWide (resolveTol f0·01) f2 e ∷ [])
+tests (suc n) e = halved R (line f4 f0 f0 f2) e >>= λ next. tests n next >>= λ ts. result (isWide (resolveTol f0·01) f2 e ∷ ts)
+
+-- P5's crossing, general tolerance 0.01: "11 halvings, centre (4, 1.00048828125), radius 0.99951171875, contacts (4,0), (4,2)".
+-- The halvings are counted by the loop's own test, which holds before each of them, and no longer after the eleventh.
+P7 : Row
+unfolding R line crossing tests
+P7 =
+    row {A = Answer Inscribed × Answer (List Bool)}
+    (fromCrossing R f0·01 (crossing f4 f0 f0 f2), tests 11 (firstEnds (point f4 f2) (point f4 f0)))
+    (result (inscribed (point f4 high) narrow (point f4 f0) (point f4 f2)), result (true ∷ true ∷ true ∷ true ∷ true ∷ true ∷ true ∷ true ∷ true ∷ true ∷ true ∷ false ∷ []))
+
+-- radii 1, 3, 3, 2: "thickest at 2"
+P8 : Row
+unfolding circle
+P8 = row (tmaxAsked (allNumbers (circle f1 f1 ∷ circle f2 f3 ∷ circle f4 f3 ∷ circle f5 f2 ∷ [])) 4) (result 2)
+
+-- two circles, contact direction (0,2): Lower (1,0); Upper (-1,0): "swapped (product is -0); not"
+P9 : Row
+unfolding pairOfU vector
+P9 = row (upperAsked (Lower (vector f1 f0)) pairOfU 2 ∷ upperAsked (Upper (vector (neg f1) f0)) pairOfU 2 ∷ []) (result true ∷ result false ∷ [])
+
+-- centres (1,0), (5,0): Fwd (1,0); Airflow (1,0): "turned; not"
+P10 : Row
+unfolding onAxis vector
+P10 = row (fwdAsked (Fwd (vector f1 f0)) onAxis 2 ∷ fwdAsked (Airflow (vector f1 f0)) onAxis 2 ∷ []) (result true ∷ result false ∷ [])
+
+-- U, 0.01, circles centre (4,1), (5,1), radius 1, contacts straight below and above at y 0 and 2, front, limit 1:
+-- "point (0, 1.00048828125), three circles, centre x 2, 4, 5, one unit"
+P11 : Row
+unfolding edgeOfU report circle
+P11 =
+    row
+    (fitOf (edgeOfU true) 1)
+    (report (ended (result (point f0 high))) 3 1 (inscribed (point f2 high) narrow (point f2 f0) (point f2 f2) ∷ circle f4 f1 ∷ circle f5 f1 ∷ []))
+
+-- "P11 at the back; P11 with limit 0": "20; 14, two circles"
+P12 : Row
+unfolding edgeOfU report circle
+P12 =
+    row
+    (fitOf (edgeOfU false) 1 ∷ fitOf (edgeOfU true) 0 ∷ [])
+    (report (ended (refusal 20)) 2 0 (circle f4 f1 ∷ circle f5 f1 ∷ unused ∷ []) ∷ report spent 2 0 (circle f4 f1 ∷ circle f5 f1 ∷ unused ∷ []) ∷ [])
+
+table : List Row
+unfolding P1 P2 P3 P4 P5 P6 P7 P8 P9 P10 P11 P12
+table = P1 ∷ P2 ∷ P3 ∷ P4 ∷ P5 ∷ P6 ∷ P7 ∷ P8 ∷ P9 ∷ P10 ∷ P11 ∷ P12 ∷ []
+
+rows-hold : Holds table
+unfolding table P1 P2 P3 P4 P5 P6 P7 P8 P9 P10 P11 P12 tests R U four two line crossing vector circle unused pairOfU onAxis edgeOfU report sqrtOf rootOfUnits wholeRoot rootDigits units size span climb odd trailingZeros ofBits ofFields round neg sum add sub mul div lt eq le
+    dotOf normOf difference normalized lineThrough atParam intersectionParam pointsOf plainDist isClosed wholeFrom badNumbers notSpacedFrom sectionEntry keptAfter kept lastOf endsMeet forcedClosed curveOf cleaned
+    edgesOf edgeHit hitsFrom inserted sortedInto droppedAfter dropped spanOf spanned crossed crossingWith edgeDirection meanDirection vertexDirection atVertex insideEdge atLengthFrom atLength atLengthAsked crossingAsked joinedAsked
+    closestOnAll leastOf leastOfAll nearestOf fractionOn heldPoint measuredTo closestOnEdge lineProjection distOf halved between halving fromLine
+    camberPoint numbersOf circleFrom circlesFrom allNumbers stored badCircle anyBad midPointOf lineNormalized rayNormalized rayProjection atDistance shiftedRay halfwayRay circleOn tryInscribed judged trial
+    next run whole lastCircle afterTrial refineMove measure refineStep tmaxFrom tmax storeEntry tmaxAsked lastInList frontAndBack centerDot lessForward dirFwd voteOf votesFrom dirUpper orientEntry fwdAsked upperAsked lastPair middleLine facedLine clipLine endCamberRay
+    gapOf capPoint capIntersection aheadOf turnedTo acrossRay probeLine probed movedPoint afterMove afterRefined afterProbe oneRound onward rounds edgeEntry startOf fitStart fitFrom fitReported fitted fitAfter
+rows-hold = (refl, (refl, (refl, (refl, (refl, (refl, (refl, (refl, (refl, (refl, (refl, (refl, tt))))))))))))
