@@ -1,62 +1,22 @@
--- `remaining` and `advance_search`. Assumes nothing.
-use mathlib.Core.Bool.{Bool, true, not, cond}
-use mathlib.Core.List.{List, [], _∷_}
+-- The steps and tries of `advance_search`. Assumes nothing.
+use mathlib.Core.Bool.{cond}
+use mathlib.Core.List.{List}
 use mathlib.Core.Option.{Option, some, none}
 use Prim.Native.Nat.{ℕ, zero, suc}
-use lib.Ieee.{Float, nan, inf, fin, lt, ofBits, binary64}
+use lib.Ieee.{Float, lt, ofBits, binary64}
 use Rattle.errors.specs.Answer.{Answer, result, _>>=_}
-use Rattle.points.specs.Numbers.{_-f_, _*f_, f½}
+use Rattle.points.specs.Numbers.{_*f_, f½}
 use Rattle.points.specs.Points.{rotated, normOf, distOf}
-use Rattle.points.specs.declared.Point2.{Point2}
 use Rattle.points.specs.declared.AngleDir.the-variants.{Ccw}
-use Rattle.line2.specs.Lines.{lineOf, rayProjection, atDistance}
-use Rattle.line2.specs.declared.SurfacePoint2.{SurfacePoint2}
-use Rattle.curve2.specs.Section.{pointsOf}
+use Rattle.line2.specs.Lines.{lineOf}
+use Rattle.surface2.specs.Rays.{atDistance}
+use Rattle.surface2.specs.declared.SurfacePoint2.{SurfacePoint2}
 use Rattle.queries.specs.Crossing.{crossingOf}
 use Rattle.queries.specs.declared.Crossing.{Crossing}
-use Rattle.inscribed.specs.Circles.{contact0, contact1, camberPoint}
+use Rattle.inscribed.specs.Circles.{contact0, contact1}
 use Rattle.inscribed.specs.declared.Inscribed.{Inscribed}
 
--- ---- `remaining`
-
--- the sign bit is clear
-abbrev pub isPlus : Float → Bool
-isPlus nan = true
-isPlus (inf s) = not s
-isPlus (fin s m e) = not s
-
--- the farthest so far and p: only where the projection's sign bit is clear is the distance worked out
-unfoldable pub farther : SurfacePoint2 → Float → Point2 → Answer Float
-farther ray most p =
-    rayProjection ray p >>= λ ahead.
-    let far = distOf (ray .point) p >>= λ d. result (cond (lt most d) d most) in
-    cond (isPlus ahead) far (result most)
-
-unfoldable pub farthest : SurfacePoint2 → Float → List Point2 → Answer Float
-farthest ray most [] = result most
-farthest ray most (p ∷ ps) = farther ray most p >>= λ next. farthest ray next ps
-
--- "the infinite start values of `remaining` .. aren't watched"
-abbrev pub remaining : List Float → SurfacePoint2 → Answer Float
-remaining ns ray = farthest ray (inf true) (pointsOf ns)
-
--- ---- before a unit is asked
-
--- the end of the march, or the camber ray to advance along
-pub data Ahead : Type 0 where
-  done : Ahead
-  along : SurfacePoint2 → Ahead
-
--- 0.375
-abbrev pub stopFraction : Float
-stopFraction = ofBits binary64 0x3fd8_0000_0000_0000
-
--- "It ends at the stop fraction 0.375"
-unfoldable pub lookAhead : List Float → Inscribed → Answer Ahead
-lookAhead ns c =
-    camberPoint c >>= λ ray.
-    remaining ns ray >>= λ d.
-    result (cond (lt (d -f c .r) (c .r *f stopFraction)) done (along ray))
+-- ---- the steps
 
 -- "fractions 0.125, 0.09375, 0.0703125, 0.052734375"
 abbrev pub fraction : ℕ → Float

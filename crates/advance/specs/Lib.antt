@@ -1,4 +1,3 @@
--- One advance along the camber line: `remaining` and `advance_search`.
+-- One advance along the camber line: `advance_search`.
 pub mod Advance
-pub mod Listed
 pub mod Outcome

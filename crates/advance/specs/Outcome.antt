@@ -5,14 +5,15 @@ use mathlib.Core.Option.{Option, some, none}
 use Prim.Native.Nat.{ℕ, zero, suc}
 use lib.Ieee.{Float, lt}
 use Rattle.errors.specs.Answer.{Answer, result, refusal}
-use Rattle.line2.specs.declared.SurfacePoint2.{SurfacePoint2}
+use Rattle.surface2.specs.declared.SurfacePoint2.{SurfacePoint2}
 use Rattle.queries.specs.declared.Crossing.{Crossing}
 use Rattle.runs.specs.Run.{Ending, ended, spent}
 use Rattle.inscribed.specs.declared.Inscribed.{Inscribed}
 use Rattle.halving.specs.Halving.{fromCrossing}
-use Rattle.refine.specs.Machine.{End, finished}
-use Rattle.refine.specs.Report.{listedEnd}
-use Rattle.advance.specs.Advance.{Ahead, done, along, lookAhead, stepOf, triedLine}
+use Rattle.moves.specs.Machine.{End, finished}
+use Rattle.moves.specs.Report.{listedEnd}
+use Rattle.ahead.specs.Ahead.{Ahead, done, along, lookAhead}
+use Rattle.advance.specs.Advance.{stepOf, triedLine}
 use Rattle.advance.specs.declared.Advanced.{Advanced}
 
 -- an ending of the march, or the next circle; each with the units taken so far

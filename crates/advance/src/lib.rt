@@ -1,130 +1,31 @@
 // One advance from the last circle: the end of the march, or the next circle to offer.
+use ahead::AheadAnswer;
 use errors::Refusal;
 use errors::ScalarAnswer;
 use inscribed::Inscribed;
 use inscribed::InscribedAnswer;
 use line2::Line2;
-use line2::SurfacePoint2;
-use line2::SurfacePointAnswer;
+use moves::RunEnd;
 use points::AngleDir;
 use points::Point2;
 use points::PointAnswer;
 use queries::Crossing;
 use queries::CrossingAnswer;
-use refine::RunEnd;
+use surface2::SurfacePoint2;
 ghost use mathlib.Core.Path.{_≡_};
 ghost use mathlib.Core.Option.{some};
-ghost use Prim.Native.Nat.{_+_, _≤_, _<_};
-ghost use lib.ListN.{length};
-ghost use Rattle.errors.specs.Refusals.{listedScalar};
-ghost use Rattle.curve2.specs.Section.{pointAt};
+ghost use Prim.Native.Nat.{_≤_};
 ghost use Rattle.curve2.specs.Entry.{HasPoints};
 ghost use Rattle.queries.specs.Crossing.{listedCrossing};
 ghost use Rattle.runs.specs.Run.{under};
 ghost use Rattle.halving.specs.Halving.{fromCrossing};
-ghost use Rattle.advance.specs.Advance.{isPlus, farther, remaining, lookAhead, fraction, stepOf, wideEnough, triedLine};
-ghost use Rattle.advance.specs.Listed.{listedAhead};
+ghost use Rattle.advance.specs.Advance.{fraction, stepOf, wideEnough, triedLine};
 ghost use Rattle.advance.specs.Outcome.{circleOutcome, triesFrom, advanceOutcome, listedAdvanced, unitsOf};
 
 // An ending of the march, or the next circle, with the units taken so far.
 pub enum Advanced {
     Ended(RunEnd, u32),
     Next(Inscribed, u32),
-}
-
-// What lies ahead of a circle: the end, the camber ray to advance along, or a refusal.
-pub enum AheadAnswer {
-    Done,
-    Along(SurfacePoint2),
-    Refused(Refusal),
-}
-
-// Whether the sign bit is clear: one over a zero is an infinity with its sign.
-pub fn is_plus(x: f64) -> bool
-    ensures { λ r. ⌜ r ≡ isPlus x ⌝ }
-{
-    if x == 0.0 {
-        return 0.0 < 1.0 / x;
-    }
-    !(x < 0.0)
-}
-
-// The farther of the farthest distance so far and p's, where p lies ahead.
-fn farther(ray: SurfacePoint2, most: f64, p: Point2) -> ScalarAnswer
-    ensures { λ r. ⌜ listedScalar r ≡ farther ray most p ⌝ }
-{
-    let o = ray.point;
-    match ray.scalar_projection(p) {
-        ScalarAnswer::Value(ahead) => {
-            if !is_plus(ahead) {
-                return ScalarAnswer::Value(most);
-            }
-            match points::dist(o, p) {
-                ScalarAnswer::Value(d) => {
-                    if most < d {
-                        return ScalarAnswer::Value(d);
-                    }
-                    ScalarAnswer::Value(most)
-                }
-                ScalarAnswer::Refused(r) => ScalarAnswer::Refused(r),
-            }
-        }
-        ScalarAnswer::Refused(r) => ScalarAnswer::Refused(r),
-    }
-}
-
-// The same of the point whose numbers start at i.
-fn farther_at(section: &[f64], i: usize, ray: SurfacePoint2, most: f64) -> ScalarAnswer
-    requires { ⌜ i + 1 < length (now section) ⌝ }
-    ensures { λ r. ⌜ listedScalar r ≡ farther ray most (pointAt (now (section .entry)) i) ⌝ }
-{
-    let i1 = i + 1;
-    let p = Point2 {
-        x: section[i],
-        y: section[i1],
-    };
-    farther(ray, most, p)
-}
-
-// The distance from the ray's point to the farthest point ahead of it.
-fn remaining(section: &[f64], ray: SurfacePoint2) -> ScalarAnswer
-    requires { ⌜ HasPoints (now section) ⌝ }
-    ensures { λ r. ⌜ listedScalar r ≡ remaining (now (section .entry)) ray ⌝ }
-{
-    let mut most: f64 = -1.0 / 0.0;
-    let mut i: usize = 0;
-    while i < section.len() {
-        match farther_at(section, i, ray, most) {
-            ScalarAnswer::Value(next) => {
-                most = next;
-            }
-            ScalarAnswer::Refused(r) => {
-                return ScalarAnswer::Refused(r);
-            }
-        }
-        i += 2;
-    }
-    ScalarAnswer::Value(most)
-}
-
-// Whether the march ends at c: less than 0.375 of its radius is left beyond it.
-fn look_ahead(section: &[f64], c: Inscribed) -> AheadAnswer
-    requires { ⌜ HasPoints (now section) ⌝ }
-    ensures { λ r. ⌜ listedAhead r ≡ lookAhead (now (section .entry)) c ⌝ }
-{
-    let radius = c.r;
-    match c.camber_point() {
-        SurfacePointAnswer::Value(ray) => match remaining(section, ray) {
-            ScalarAnswer::Value(d) => {
-                if d - radius < radius * 0.375 {
-                    return AheadAnswer::Done;
-                }
-                AheadAnswer::Along(ray)
-            }
-            ScalarAnswer::Refused(r) => AheadAnswer::Refused(r),
-        },
-        SurfacePointAnswer::Refused(r) => AheadAnswer::Refused(r),
-    }
 }
 
 // Fraction number k of a radius.
@@ -259,7 +160,7 @@ pub fn advance(section: &[f64], tol: f64, c: Inscribed, limit: u32, units: u32) 
     requires { ⌜ units ≤ limit ⌝ }
     ensures { λ r. ⌜ (listedAdvanced r ≡ advanceOutcome (now (section .entry)) tol c (under limit) units) × (unitsOf (listedAdvanced r) ≤ limit) ⌝ }
 {
-    match look_ahead(section, c) {
+    match ahead::look_ahead(section, c) {
         AheadAnswer::Done => Advanced::Ended(RunEnd::Finished, units),
         AheadAnswer::Along(ray) => tries(section, tol, c, ray, limit, units),
         AheadAnswer::Refused(r) => refused(r, units),

@@ -1,13 +1,15 @@
 // Loops over the library that bench/ times, for a program in another language to call.
 use line2::Line2;
+use moves::Run;
+use moves::RunEnd;
 use points::Point2;
 use points::Vector2;
 use queries::CrossingAnswer;
 use queries::NearestAnswer;
-use refine::Run;
-use refine::RunEnd;
 use rounds::EdgeEnd;
 use rounds::EdgeFit;
+ghost use Prim.Native.Nat.{_+_, _<_};
+ghost use lib.ListN.{length};
 ghost use Rattle.curve2.specs.Entry.{HasPoints};
 
 // The sum of the roots.
@@ -71,23 +73,27 @@ pub extern "C" fn bench_crossings(section: &[f64], lines: &[f64]) -> f64 {
     let mut sum: f64 = 0.0;
     let mut i: usize = 0;
     while i + 3 < lines.len() {
-        let i1 = i + 1;
-        let i2 = i + 2;
-        let i3 = i + 3;
-        let line = Line2 {
-            origin: Point2 {
-                x: lines[i],
-                y: lines[i1],
-            },
-            direction: Vector2 {
-                x: lines[i2],
-                y: lines[i3],
-            },
-        };
-        sum = sum + width_of(section, line);
+        sum = sum + width_of(section, line_at(lines, i));
         i += 4;
     }
     sum
+}
+
+// The line of four numbers from i on.
+fn line_at(numbers: &[f64], i: usize) -> Line2
+    requires { ⌜ i + 3 < length (now numbers) ⌝ }
+{
+    let i1 = i + 1;
+    let i2 = i + 2;
+    let i3 = i + 3;
+    let x = numbers[i];
+    let y = numbers[i1];
+    let dx = numbers[i2];
+    let dy = numbers[i3];
+    Line2 {
+        origin: Point2 { x, y },
+        direction: Vector2 { x: dx, y: dy },
+    }
 }
 
 fn width_of(section: &[f64], line: Line2) -> f64
@@ -118,16 +124,7 @@ fn line_of(numbers: &[f64]) -> Line2 {
             direction: Vector2 { x: nan, y: nan },
         };
     }
-    Line2 {
-        origin: Point2 {
-            x: numbers[0],
-            y: numbers[1],
-        },
-        direction: Vector2 {
-            x: numbers[2],
-            y: numbers[3],
-        },
-    }
+    line_at(numbers, 0)
 }
 
 // The units of a march that finishes; 0 for any other ending.

@@ -14,14 +14,14 @@ use Rattle.runs.specs.Run.{ended, Out, under}
 use Rattle.inscribed.specs.Store.{circleAt, circlesFrom, circlesOf, allNumbers, stored}
 use Rattle.inscribed.specs.declared.Inscribed.{Inscribed}
 use Rattle.inscribed.proofs.StoreLaws.{length-circles, circles-of-stored}
-use Rattle.refine.specs.Machine.{State, refining, advancing, circlesIn, End, finished, lastOf}
-use Rattle.refine.specs.Report.{Report, reported, listedEnd, listedRun}
+use Rattle.moves.specs.Machine.{State, refining, advancing, circlesIn, End, finished, lastOf}
+use Rattle.moves.specs.Report.{Report, reported, listedEnd, listedRun}
 use Rattle.refine.specs.Refinement.{refineRun}
-use Rattle.refine.specs.declared.Run.{Run}
-use Rattle.refine.specs.declared.RunEnd.{RunEnd}
+use Rattle.moves.specs.declared.Run.{Run}
+use Rattle.moves.specs.declared.RunEnd.{RunEnd}
 use Rattle.refine.proofs.RefineLaws.{last-stored}
 use Rattle.refine.proofs.RefinedLaws.{refined-fits, refined-units, refined-done, refined-report}
-use Rattle.camber.specs.March.{marchRun, marchEntry, firstCircle, marchStart}
+use Rattle.camber.specs.March.{marchRun}
 use Rattle.advance.specs.Outcome.{Outcome, ending, going, advanceOutcome, listedAdvanced}
 use Rattle.advance.specs.declared.Advanced.{Advanced}
 use Rattle.camber.proofs.MarchLoop.{outcomeReport, advance-outcome, refined-on, refined-ends}
@@ -140,16 +140,3 @@ refused-unfinished (RunEnd.Refused s) r p q = let z : _≡_ {A = ℕ} 0 1 = cc i
 
 pub finished-listed : (e : RunEnd) → e ≡ RunEnd.Finished → listedEnd e ≡ ended finished
 finished-listed e p = ap listedEnd p
-
--- what a march that starts tells of its section
-pub entered-points : (ns : List Float) (sectionTol tol : Float) (l : Line2) → marchEntry ns sectionTol tol l ≡ result tt → HasPoints ns
-unfolding marchEntry
-entered-points ns sectionTol tol l e = entry-passed _ _ _ e .points
-
-pub started-points : (ns : List Float) (sectionTol tol : Float) (l : Line2) (c : Inscribed) → marchStart ns sectionTol tol l ≡ result c → HasPoints ns
-unfolding marchStart
-started-points ns sectionTol tol l c e = go (marchEntry ns sectionTol tol l) refl e
-  where
-    go : (a : Answer (Unit {0})) → marchEntry ns sectionTol tol l ≡ a → (a >>= λ passed. firstCircle ns tol l) ≡ result c → HasPoints ns
-    go (result tt) p q = entered-points ns sectionTol tol l p
-    go (refusal n) p q = let z : _≡_ {A = ℕ} 0 1 = cc in absurd (omega arith)

@@ -7,7 +7,7 @@ use Rattle.errors.specs.Answer.{Answer, result, refusal}
 use Rattle.runs.specs.Run.{under, never}
 use Rattle.inscribed.specs.Store.{slots, circlesFrom}
 use Rattle.inscribed.specs.declared.Inscribed.{Inscribed}
-use Rattle.refine.specs.Machine.{refining, measure}
+use Rattle.moves.specs.Machine.{refining, measure}
 use Rattle.refine.specs.Law.{LimitLaw}
 use Rattle.refine.proofs.MachineLaws.{Sound}
 use Rattle.refine.proofs.LawOfRuns.{oldLast, entry-law, run-law}

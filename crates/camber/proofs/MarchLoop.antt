@@ -10,7 +10,7 @@ use lib.Dec.{ltb}
 use lib.ListN.{length}
 use lib.Ieee.{Float, lt}
 use Rattle.errors.specs.Answer.{Answer, result, refusal}
-use Rattle.line2.specs.declared.SurfacePoint2.{SurfacePoint2}
+use Rattle.surface2.specs.declared.SurfacePoint2.{SurfacePoint2}
 use Rattle.queries.specs.declared.Crossing.{Crossing}
 use Rattle.runs.specs.Run.{ends, pays, Ending, ended, spent, Out, under, whole}
 use Rattle.runs.proofs.RunLaws.{whole-ends, whole-goes, whole-pays, whole-spent}
@@ -19,12 +19,13 @@ use Rattle.runs.proofs.SequelLaws.{Sequel, sequel}
 use Rattle.inscribed.specs.Store.{stored}
 use Rattle.inscribed.specs.declared.Inscribed.{Inscribed}
 use Rattle.halving.specs.Halving.{fromCrossing}
-use Rattle.refine.specs.Machine.{State, refining, advancing, over, circlesIn, End, finished, lastOf, measure}
-use Rattle.refine.specs.Report.{Report, reported}
+use Rattle.moves.specs.Machine.{State, refining, advancing, over, circlesIn, End, finished, lastOf, measure}
+use Rattle.moves.specs.Report.{Report, reported}
 use Rattle.refine.specs.Refinement.{refineStep, refineRun}
 use Rattle.refine.proofs.MachineLaws.{refine-falls}
 use Rattle.refine.proofs.RefinedLaws.{refined-done}
-use Rattle.advance.specs.Advance.{Ahead, done, along, lookAhead, stepOf, triedLine}
+use Rattle.ahead.specs.Ahead.{Ahead, done, along, lookAhead}
+use Rattle.advance.specs.Advance.{stepOf, triedLine}
 use Rattle.camber.specs.March.{afterCircle, afterLine, advanceMove, marchStep, marchRun}
 use Rattle.advance.specs.Outcome.{Outcome, ending, going, circleOutcome, lineOutcome, triesFrom, aheadOutcome, advanceOutcome}
 use Rattle.camber.proofs.MarchMachine.{march-falls, Refines, march-alike, refines-goes, refines-pays}

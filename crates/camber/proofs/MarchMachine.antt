@@ -15,12 +15,13 @@ use Rattle.runs.specs.Run.{Move, ends, goes, pays, under, whole}
 use Rattle.runs.proofs.RunLaws.{Falls}
 use Rattle.runs.proofs.LimitLaws.{Grows, run-holds, units-within}
 use Rattle.inscribed.specs.declared.Inscribed.{Inscribed}
-use Rattle.halving.specs.Trial.{trial}
+use Rattle.trial.specs.Trial.{trial}
 use Rattle.halving.specs.Halving.{fromCrossing}
-use Rattle.refine.specs.Machine.{State, refining, advancing, over, circlesIn, End, finished, lastOf, afterTrial, measure}
+use Rattle.moves.specs.Machine.{State, refining, advancing, over, circlesIn, End, finished, lastOf, withRoom, afterRoom, afterTrial, measure}
 use Rattle.refine.specs.Refinement.{refineStep}
 use Rattle.refine.proofs.MachineLaws.{no-goes, no-pays, move-goes, move-pays, move-falls, Part, no-more, part-same, part-chain, move-part, Sound, move-sound, Fits, refine-fits-goes, refine-fits-pays}
-use Rattle.advance.specs.Advance.{Ahead, done, along, lookAhead, stepOf, triedLine}
+use Rattle.ahead.specs.Ahead.{Ahead, done, along, lookAhead}
+use Rattle.advance.specs.Advance.{stepOf, triedLine}
 use Rattle.camber.specs.March.{afterCircle, afterLine, advanceMove, marchStep, marchRun}
 
 -- ---- what an advance leads to: the list stays as it is, and the measure falls
@@ -171,16 +172,16 @@ module _ (ns : List Float) (tol : Float) (slots : ℕ) where
   refines-goes (over cs m) t h p = no-goes p
 
   after-refines : (cs : List Inscribed) (b : Inscribed) (ws : List Inscribed) (r : Answer (Option Inscribed)) → Refines (afterTrial slots cs b ws r)
-  unfolding afterTrial
+  unfolding afterTrial withRoom
   after-refines cs b ws (refusal n) = tt
   after-refines cs b ws (result (some d)) = go (leb 64 (suc (length ws)))
     where
-      go : (x : Bool) → Refines (cond x (over cs 16) (refining cs (d ∷ (b ∷ ws))))
+      go : (x : Bool) → Refines (afterRoom cs b ws (cond x (refusal 16) (result (some d))))
       go true = tt
       go false = tt
   after-refines cs b ws (result none) = go (leb slots (length cs))
     where
-      go : (x : Bool) → Refines (cond x (over cs 15) (refining (cs ++ (b ∷ [])) ws))
+      go : (x : Bool) → Refines (afterRoom cs b ws (cond x (refusal 15) (result none)))
       go true = tt
       go false = tt
 

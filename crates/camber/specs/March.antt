@@ -1,25 +1,23 @@
 -- One march, `extract_half_circles`: "given a line, it finds the crossing and begins with no circle in use". Assumes nothing.
-use mathlib.Core.Bool.{Bool, false, not, cond}
+use mathlib.Core.Bool.{Bool, cond}
 use mathlib.Core.List.{List, [], _∷_}
 use mathlib.Core.Option.{Option, some, none}
 use Prim.Native.Nat.{ℕ, suc}
 use lib.Dec.{ltb}
 use lib.ListN.{drop}
 use lib.Ieee.{Float, lt}
-use Rattle.errors.specs.Answer.{Answer, result, refusal, _>>=_}
+use Rattle.errors.specs.Answer.{Answer, result, refusal}
 use Rattle.line2.specs.declared.Line2.{Line2}
-use Rattle.curve2.specs.Entry.{sectionEntry}
-use Rattle.queries.specs.Crossing.{crossingOf, orNoCrossing}
 use Rattle.queries.specs.declared.Crossing.{Crossing}
 use Rattle.runs.specs.Run.{Move, ends, goes, pays, Out, under, never, whole}
 use Rattle.inscribed.specs.Store.{slots}
 use Rattle.inscribed.specs.declared.Inscribed.{Inscribed}
 use Rattle.halving.specs.Halving.{fromCrossing}
-use Rattle.refine.specs.Machine.{State, refining, advancing, over, circlesIn, End, finished, lastOf, refineMove, measure}
-use Rattle.refine.specs.Report.{Report, reported, refusedOnEntry}
-use Rattle.refine.specs.Refinement.{badGeneral}
-use Rattle.sections.specs.Asked.{finiteLine}
-use Rattle.advance.specs.Advance.{Ahead, done, along, lookAhead, stepOf, triedLine}
+use Rattle.moves.specs.Machine.{State, refining, advancing, over, circlesIn, End, finished, lastOf, refineMove, measure}
+use Rattle.moves.specs.Report.{Report, reported, refusedOnEntry}
+use Rattle.circles.specs.Asked.{tryAsked}
+use Rattle.ahead.specs.Ahead.{Ahead, done, along, lookAhead}
+use Rattle.advance.specs.Advance.{stepOf, triedLine}
 
 -- After a crossing was tried with fraction number k: its circle waits, the next fraction is due, or 13: "the advance finds no line".
 unfoldable pub afterCircle : List Inscribed → Answer Inscribed → State
@@ -61,19 +59,9 @@ pub record Marched : Type 0 where
   pub line : Line2
   pub store : List Float
 
-unfoldable pub marchEntry : List Float → Float → Float → Line2 → Answer (Unit {0})
-marchEntry ns sectionTol tol l = sectionEntry ns sectionTol (record { number = not (finiteLine l); tolerance = badGeneral tol; room = false })
-
--- the start's crossing (8), and its circle (10, 12)
-unfoldable pub firstCircle : List Float → Float → Line2 → Answer Inscribed
-firstCircle ns tol l = crossingOf ns l >>= λ found. orNoCrossing found >>= λ x. fromCrossing ns tol x
-
-unfoldable pub marchStart : List Float → Float → Float → Line2 → Answer Inscribed
-unfolding marchEntry firstCircle
-marchStart ns sectionTol tol l = marchEntry ns sectionTol tol l >>= λ passed. firstCircle ns tol l
-
+-- the entry tests, the start's crossing (8), and its circle (10, 12): `try_inscribed`
 abbrev pub startOf : Marched → Answer Inscribed
-startOf m = marchStart (m .section) (m .sectionTol) (m .tol) (m .line)
+startOf m = tryAsked (m .section) (m .sectionTol) (m .tol) (m .line)
 
 -- "Its circle waits first."
 abbrev pub startedRun : Marched → (ℕ → Bool) → Inscribed → Out State End

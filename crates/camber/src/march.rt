@@ -1,24 +1,19 @@
 // One march, `extract_half_circles`: refinements and advances by turns.
 use advance::Advanced;
-use curve2::AlsoBad;
-use curve2::Entry;
-use errors::Refusal;
 use inscribed::Inscribed;
 use inscribed::InscribedAnswer;
 use line2::Line2;
-use queries::CrossingAnswer;
-use refine::Run;
-use refine::RunEnd;
+use moves::Run;
+use moves::RunEnd;
 ghost use mathlib.Core.Path.{_≡_};
 ghost use mathlib.Core.List.{[], _∷_};
 ghost use Prim.Native.Nat.{_*_, _≤_};
 ghost use lib.ListN.{length};
-ghost use Rattle.curve2.specs.Entry.{HasPoints, listedEntry};
-ghost use Rattle.inscribed.specs.Circles.{listedInscribed};
+ghost use Rattle.curve2.specs.Entry.{HasPoints};
 ghost use Rattle.runs.specs.Run.{under};
-ghost use Rattle.refine.specs.Machine.{refining};
-ghost use Rattle.refine.specs.Report.{reported, listedRun};
-ghost use Rattle.camber.specs.March.{marchRun, marchEntry, firstCircle, marchStart, marchOf};
+ghost use Rattle.moves.specs.Machine.{refining};
+ghost use Rattle.moves.specs.Report.{reported, listedRun};
+ghost use Rattle.camber.specs.March.{marchRun, marchOf};
 
 // The march on a checked section from its first circle on, into a store with room for `slots` circles; `units` have been taken before.
 pub fn march_from(
@@ -66,42 +61,6 @@ pub fn march_from(
     }
 }
 
-// The entry tests of a march.
-fn entered(section: &[f64], section_tol: f64, tol: f64, line: Line2) -> Entry
-    ensures { λ r. ⌜ listedEntry r ≡ marchEntry (now (section .entry)) «section_tol» tol line ⌝ }
-{
-    let good = sections::is_finite_line(line);
-    let tolerance = refine::is_bad_general(tol);
-    let also = AlsoBad {
-        number: !good,
-        tolerance,
-        room: false,
-    };
-    curve2::section_entry(section, section_tol, also)
-}
-
-// The circle of the start line's crossing: 8 where it has not exactly two hits.
-pub fn first_circle(section: &[f64], tol: f64, line: Line2) -> InscribedAnswer
-    requires { ⌜ HasPoints (now section) ⌝ }
-    ensures { λ r. ⌜ listedInscribed r ≡ firstCircle (now (section .entry)) tol line ⌝ }
-{
-    match queries::crossings::crossing_line(section, line) {
-        CrossingAnswer::Value(x) => halving::from_crossing(section, tol, x),
-        CrossingAnswer::Missed => InscribedAnswer::Refused(Refusal::NoCrossing),
-        CrossingAnswer::Refused(r) => InscribedAnswer::Refused(r),
-    }
-}
-
-// Where a march starts: the entry tests, then the first circle.
-pub fn start(section: &[f64], section_tol: f64, tol: f64, line: Line2) -> InscribedAnswer
-    ensures { λ r. ⌜ listedInscribed r ≡ marchStart (now (section .entry)) «section_tol» tol line ⌝ }
-{
-    match entered(section, section_tol, tol, line) {
-        Entry::Passed => first_circle(section, tol, line),
-        Entry::Refused(r) => InscribedAnswer::Refused(r),
-    }
-}
-
 // One march from a line, into a store that holds no circle yet, within a limit of units.
 pub fn march(
     section: &[f64],
@@ -113,7 +72,7 @@ pub fn march(
 ) -> Run
     ensures { λ r. ⌜ listedRun r (now (store .exit)) ≡ marchOf (record { section = now (section .entry); sectionTol = «section_tol»; tol = tol; line = line; store = now (store .entry) }) limit ⌝ }
 {
-    match start(section, section_tol, tol, line) {
+    match circles::try_inscribed(section, section_tol, tol, line) {
         InscribedAnswer::Value(c) => {
             let slots = inscribed::store::slots_up_to(1024, store.len());
             march_from(section, tol, store, slots, c, limit, 0)

@@ -1,6 +1,4 @@
-// Worked cases of circles, refinements and extractions, for the program `cases` to run.
+// Worked cases of circles and refinements, for the program `cases` to run.
 pub mod asked;
-pub mod bad_numbers;
-pub mod extractions;
 pub mod shapes;
 pub mod slots;

@@ -1,10 +1,10 @@
 // The rectangle R, its circles, and what is told of an answer.
-use halving::trial::TriedAnswer;
 use inscribed::Inscribed;
 use inscribed::InscribedAnswer;
 use line2::Line2;
 use points::Point2;
 use points::Vector2;
+use trial::TriedAnswer;
 
 // "R is (0,0) (8,0) (8,2) (0,2) (0,0)"
 pub fn rectangle() -> [f64; 10] {

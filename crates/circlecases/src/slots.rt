@@ -1,7 +1,7 @@
 // Refinements that end for want of a slot, of a place among the waiting, or of a limit.
 use crate::shapes;
 use inscribed::Inscribed;
-use refine::Run;
+use moves::Run;
 use runcases::stores;
 
 const T: f64 = 0.001;
@@ -32,7 +32,7 @@ fn large_store_ends(count: usize, limit: u32, number: u32, after: usize, units: 
     let mut wanted = [12345.0; 7700];
     fill(&mut store, count);
     fill(&mut wanted, after);
-    let run = refine::refine_and_push(
+    let run = circles::refinement::refine_and_push(
         &r,
         T,
         G,
@@ -63,7 +63,7 @@ pub fn slots_of_a_large_store() -> bool {
 
 fn offered(store: &mut [f64], c: Inscribed, limit: u32) -> Run {
     let r = shapes::rectangle();
-    refine::refine_and_push(&r, T, G, store, 1, c, limit)
+    circles::refinement::refine_and_push(&r, T, G, store, 1, c, limit)
 }
 
 // A full store takes its unit and makes the trial before 15: at limit 0 it is 14.
@@ -167,7 +167,7 @@ pub fn too_long_in_a_trial() -> bool {
     };
     let mut store = [12345.0; 21];
     inscribed::store::put_circle(&mut store, 0, c);
-    let run = refine::refine_and_push(&s, T, G, &mut store, 1, c, 9);
+    let run = circles::refinement::refine_and_push(&s, T, G, &mut store, 1, c, 9);
     if !stores::is_run(run, 10, 1, 1) {
         return false;
     }

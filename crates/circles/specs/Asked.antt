@@ -10,8 +10,8 @@ use Rattle.sections.specs.Asked.{finiteLine}
 use Rattle.inscribed.specs.Store.{badCircle}
 use Rattle.inscribed.specs.declared.Inscribed.{Inscribed}
 use Rattle.halving.specs.Halving.{fromCrossing}
-use Rattle.halving.specs.Trial.{tryInscribed, trial}
-use Rattle.refine.specs.Refinement.{badGeneral}
+use Rattle.trial.specs.Trial.{inscribedOn, trial}
+use Rattle.curve2.specs.Entry.{badGeneral}
 
 -- with whether a number of the other arguments is bad
 unfoldable pub circleEntry : List Float → Float → Float → Bool → Answer (Unit {0})
@@ -21,14 +21,9 @@ circleEntry ns sectionTol tol bad = sectionEntry ns sectionTol (record { number 
 unfoldable pub fromCrossingAsked : List Float → Float → Float → Line2 → Answer Inscribed
 fromCrossingAsked ns sectionTol tol l = circleEntry ns sectionTol tol (not (finiteLine l)) >>= λ passed. fromCrossing ns tol (record { line = l })
 
--- 8: "a line asked for directly .. has not exactly two hits"
-abbrev pub orNoCircle : Option Inscribed → Answer Inscribed
-orNoCircle none = refusal 8
-orNoCircle (some c) = result c
-
 -- `try_inscribed`
 unfoldable pub tryAsked : List Float → Float → Float → Line2 → Answer Inscribed
-tryAsked ns sectionTol tol l = circleEntry ns sectionTol tol (not (finiteLine l)) >>= λ passed. tryInscribed ns tol l >>= orNoCircle
+tryAsked ns sectionTol tol l = circleEntry ns sectionTol tol (not (finiteLine l)) >>= λ passed. inscribedOn ns tol l
 
 -- `inscribed_refined` of a, the earlier, and b
 unfoldable pub trialAsked : List Float → Float → Float → Inscribed → Inscribed → Answer (Option Inscribed)

@@ -1,25 +1,26 @@
 // What is asked of a section with a general tolerance. Each function makes the entry tests, and then its step.
 use curve2::AlsoBad;
 use curve2::Entry;
-use errors::Refusal;
-use halving::trial::TriedAnswer;
 use inscribed::Inscribed;
 use inscribed::InscribedAnswer;
 use line2::Line2;
 use queries::Crossing;
+use trial::TriedAnswer;
 ghost use mathlib.Core.Path.{_≡_};
 ghost use mathlib.Core.Bool.{_||_};
 ghost use Rattle.curve2.specs.Entry.{listedEntry};
 ghost use Rattle.inscribed.specs.Circles.{listedInscribed};
 ghost use Rattle.inscribed.specs.Store.{badCircle};
-ghost use Rattle.halving.specs.Tried.{listedTried};
+ghost use Rattle.trial.specs.Tried.{listedTried};
 ghost use Rattle.circles.specs.Asked.{circleEntry, fromCrossingAsked, tryAsked, trialAsked};
+
+pub mod refinement;
 
 // The entry tests, with whether a number of the other arguments is bad.
 fn entered(section: &[f64], section_tol: f64, tol: f64, number: bool) -> Entry
     ensures { λ r. ⌜ listedEntry r ≡ circleEntry (now (section .entry)) «section_tol» tol number ⌝ }
 {
-    let tolerance = refine::is_bad_general(tol);
+    let tolerance = curve2::is_bad_general(tol);
     let also = AlsoBad {
         number,
         tolerance,
@@ -61,13 +62,9 @@ pub fn inscribed_from_crossing(
 pub fn try_inscribed(section: &[f64], section_tol: f64, tol: f64, line: Line2) -> InscribedAnswer
     ensures { λ r. ⌜ listedInscribed r ≡ tryAsked (now (section .entry)) «section_tol» tol line ⌝ }
 {
-    let good = sections::is_finite_line(line);
-    match entered(section, section_tol, tol, !good) {
-        Entry::Passed => match halving::trial::try_inscribed(section, tol, line) {
-            TriedAnswer::Value(c) => InscribedAnswer::Value(c),
-            TriedAnswer::Nothing => InscribedAnswer::Refused(Refusal::NoCrossing),
-            TriedAnswer::Refused(r) => InscribedAnswer::Refused(r),
-        },
+    let finite = sections::is_finite_line(line);
+    match entered(section, section_tol, tol, !finite) {
+        Entry::Passed => trial::inscribed_on(section, tol, line),
         Entry::Refused(r) => InscribedAnswer::Refused(r),
     }
 }
@@ -84,7 +81,7 @@ pub fn inscribed_refined(
 {
     let number = is_bad_pair(a, b);
     match entered(section, section_tol, tol, number) {
-        Entry::Passed => halving::trial::inscribed_refined(section, tol, a, b),
+        Entry::Passed => trial::inscribed_refined(section, tol, a, b),
         Entry::Refused(r) => TriedAnswer::Refused(r),
     }
 }

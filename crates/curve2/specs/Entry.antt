@@ -41,6 +41,17 @@ badNumbers (x ∷ ns) = not (inRange x) || badNumbers ns
 abbrev pub badTolerance : Float → Bool
 badTolerance tol = not (le f0 tol && le tol million)
 
+-- 1e-6 and 1,000
+abbrev pub leastTol : Float
+leastTol = ofBits binary64 0x3eb0_c6f7_a0b5_ed8d
+
+abbrev pub mostTol : Float
+mostTol = ofBits binary64 0x408f_4000_0000_0000
+
+-- 3: "general tolerance outside 1e-6 to 1,000, ends allowed, NaN outside"
+abbrev pub badGeneral : Float → Bool
+badGeneral tol = not (le leastTol tol && le tol mostTol)
+
 -- 6: "neighbouring points no farther apart than the section tolerance, or summed lengths that don't strictly rise"
 unfoldable pub notSpacedFrom : Float → Float → List Point2 → Bool
 notSpacedFrom tol l [] = false

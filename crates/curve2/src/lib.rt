@@ -4,7 +4,7 @@ ghost use mathlib.Core.Path.{_≡_};
 ghost use Prim.Native.Nat.{_+_, _≤_, _<_};
 ghost use lib.ListN.{length};
 ghost use Rattle.curve2.specs.Section.{point, pointAt, plainDist, isClosed, wholeLength};
-ghost use Rattle.curve2.specs.Entry.{badCount, badNumbers, badTolerance, notSpaced, inRange, sectionEntry, HasPoints, listedEntry};
+ghost use Rattle.curve2.specs.Entry.{badCount, badNumbers, badTolerance, badGeneral, notSpaced, inRange, sectionEntry, HasPoints, listedEntry};
 
 // What fails of the arguments beside the section: a number (2), a tolerance (3), a count or an output (4).
 pub struct AlsoBad {
@@ -64,6 +64,16 @@ pub fn is_bad_tolerance(tol: f64) -> bool
 {
     if 0.0 <= tol {
         return !(tol <= 1000000.0);
+    }
+    true
+}
+
+// Test 3 of a general tolerance: outside 1e-6 to 1,000.
+pub fn is_bad_general(tol: f64) -> bool
+    ensures { λ r. ⌜ r ≡ badGeneral tol ⌝ }
+{
+    if 0.000001 <= tol {
+        return !(tol <= 1000.0);
     }
     true
 }

@@ -10,71 +10,86 @@ const G: f64 = 0.01;
 
 const NO_LIMIT: u32 = 4_294_967_295;
 
-fn is_bool(a: BoolAnswer, wanted: bool) -> bool {
+// What is told of an end that is open, and of one that isn't; a refusal has its number.
+const YES: u32 = 50;
+
+const NO: u32 = 0;
+
+fn open_number(a: BoolAnswer) -> u32 {
     match a {
-        BoolAnswer::Value(b) => b == wanted,
-        BoolAnswer::Refused(_) => false,
+        BoolAnswer::Value(yes) => {
+            if yes {
+                return YES;
+            }
+            NO
+        }
+        BoolAnswer::Refused(r) => errors::number(r),
     }
 }
 
-fn is_number(a: BoolAnswer, number: u32) -> bool {
-    match a {
-        BoolAnswer::Value(_) => false,
-        BoolAnswer::Refused(r) => errors::number(r) == number,
+// Right so far, and the fit ends with this number, count and units.
+fn fit_ends(
+    right: bool,
+    s: &[f64],
+    store: &mut [f64],
+    count: usize,
+    at_front: bool,
+    limit: u32,
+    number: u32,
+    units: u32,
+) -> bool {
+    let fit = edges::fit_open_edge(s, T, G, store, count, at_front, limit);
+    if !shapes::is_fit(fit, number, count, units) {
+        return false;
     }
+    right
+}
+
+// Whether the fit from two circles finds the edge point (x, y), with this count and these units.
+fn fits_at(
+    s: &[f64],
+    store: &mut [f64],
+    at_front: bool,
+    limit: u32,
+    count: usize,
+    units: u32,
+    x: f64,
+    y: f64,
+) -> bool {
+    let fit = edges::fit_open_edge(s, T, G, store, 2, at_front, limit);
+    if !shapes::is_fit(fit, 0, count, units) {
+        return false;
+    }
+    shapes::is_at(fit, x, y)
+}
+
+// Right so far, and the first numbers of the store are those of the pair.
+fn is_pair(right: bool, store: &[f64], n: usize) -> bool {
+    let old = shapes::pair();
+    if !stores::same_start(store, &old, n) {
+        return false;
+    }
+    right
 }
 
 // Row P11: the accepted circle stands in front of the old ones, and the order is turned back.
 pub fn row_p11() -> bool {
     let s = shapes::open_left();
     let mut store = shapes::pair();
-    let fit = edges::fit_open_edge(&s, T, G, &mut store, 2, true, 1);
-    let after = [
-        2.0,
-        1.00048828125,
-        0.99951171875,
-        2.0,
-        0.0,
-        2.0,
-        2.0,
-        4.0,
-        1.0,
-        1.0,
-        4.0,
-        0.0,
-        4.0,
-        2.0,
-        5.0,
-        1.0,
-        1.0,
-        5.0,
-        0.0,
-        5.0,
-        2.0,
-    ];
-    if !shapes::is_fit(fit, 0, 3, 1) {
+    if !fits_at(&s, &mut store, true, 1, 3, 1, 0.0, 1.00048828125) {
         return false;
     }
-    if !shapes::is_at(fit, 0.0, 1.00048828125) {
-        return false;
-    }
+    let after = shapes::with_the_third();
     stores::same_start(&store, &after, 21)
 }
 
 // Row P12, the store as it was.
 pub fn row_p12() -> bool {
     let s = shapes::open_left();
-    let old = shapes::pair();
     let mut store = shapes::pair();
-    let back = edges::fit_open_edge(&s, T, G, &mut store, 2, false, 1);
-    if !shapes::is_fit(back, 20, 2, 0) {
-        return false;
-    }
-    let spent = edges::fit_open_edge(&s, T, G, &mut store, 2, true, 0);
-    if !shapes::is_fit(spent, 14, 2, 0) {
-        return false;
-    }
-    stores::same_start(&store, &old, 21)
+    let mut right = fit_ends(true, &s, &mut store, 2, false, 1, 20, 0);
+    right = fit_ends(right, &s, &mut store, 2, true, 0, 14, 0);
+    is_pair(right, &store, 21)
 }
 
 // A section that is open at its right end is fitted at the back, and the circle stands behind the old ones. Its upper side comes first, so that a tie of the
@@ -82,18 +97,11 @@ pub fn row_p12() -> bool {
 pub fn back_of_a_section() -> bool {
     let s = shapes::open_right();
     let mut store = shapes::pair();
-    let fit = edges::fit_open_edge(&s, T, G, &mut store, 2, false, NO_LIMIT);
-    if !shapes::is_fit(fit, 0, 3, 1) {
+    let right = fits_at(&s, &mut store, false, NO_LIMIT, 3, 1, 8.0, 0.99951171875);
+    if store[14] != 6.5 {
         return false;
     }
-    if !shapes::is_at(fit, 8.0, 0.99951171875) {
-        return false;
-    }
-    let old = shapes::pair();
-    if !stores::same_start(&store, &old, 14) {
-        return false;
-    }
-    store[14] == 6.5
+    is_pair(right, &store, 14)
 }
 
 // The circles of a march towards the open end of a blade, that end last or, for a fit at the front, first.
@@ -182,26 +190,32 @@ fn rectangle() -> [f64; 10] {
 pub fn closed_sections() -> bool {
     let s = rectangle();
     let mut store = shapes::pair();
-    let two = edges::fit_open_edge(&s, T, G, &mut store, 2, true, 5);
-    if !shapes::is_fit(two, 17, 2, 0) {
-        return false;
-    }
-    let one = edges::fit_open_edge(&s, T, G, &mut store, 1, true, 5);
-    shapes::is_fit(one, 7, 1, 0)
+    let right = fit_ends(true, &s, &mut store, 2, true, 5, 17, 0);
+    fit_ends(right, &s, &mut store, 1, true, 5, 7, 0)
 }
 
-fn open_end(section: &[f64], tol: f64, count: usize, at_front: bool) -> BoolAnswer {
+// Right so far, and the end of the pair's circles is open or not, or refused.
+fn open_is(
+    right: bool,
+    section: &[f64],
+    tol: f64,
+    count: usize,
+    at_front: bool,
+    wanted: u32,
+) -> bool {
     let store = shapes::pair();
-    edges::is_open_at_end(section, T, tol, &store, count, at_front)
+    let a = edges::is_open_at_end(section, T, tol, &store, count, at_front);
+    if open_number(a) != wanted {
+        return false;
+    }
+    right
 }
 
 // A closed section isn't open, whatever the circles; the entry tests come before.
 pub fn closed_is_not_open() -> bool {
     let s = rectangle();
-    if !is_bool(open_end(&s, G, 0, true), false) {
-        return false;
-    }
-    is_number(open_end(&s, 0.0 / 0.0, 0, true), 3)
+    let right = open_is(true, &s, G, 0, true, NO);
+    open_is(right, &s, 0.0 / 0.0, 0, true, 3)
 }
 
 // The clip line's 11 and 12 come before 17.
@@ -210,44 +224,33 @@ pub fn clip_line_comes_first() -> bool {
     let mut store = shapes::pair();
     store[12] = 5.0;
     store[13] = 1e-170;
-    let flat = edges::fit_open_edge(&s, T, G, &mut store, 2, false, 5);
-    if !shapes::is_fit(flat, 11, 2, 0) {
-        return false;
-    }
+    let right = fit_ends(true, &s, &mut store, 2, false, 5, 11, 0);
     store[7] = 1e308;
     store[0] = -1e308;
-    let far = edges::fit_open_edge(&s, T, G, &mut store, 2, false, 5);
-    shapes::is_fit(far, 12, 2, 0)
+    fit_ends(right, &s, &mut store, 2, false, 5, 12, 0)
 }
 
 // Which end is open, and 7.
 pub fn open_at_the_left() -> bool {
     let s = shapes::open_left();
-    if !is_bool(open_end(&s, G, 2, true), true) {
-        return false;
-    }
-    if !is_bool(open_end(&s, G, 2, false), false) {
-        return false;
-    }
-    is_number(open_end(&s, G, 1, false), 7)
+    let mut right = open_is(true, &s, G, 2, true, YES);
+    right = open_is(right, &s, G, 2, false, NO);
+    open_is(right, &s, G, 1, false, 7)
 }
 
 pub fn open_at_the_right() -> bool {
     let s = shapes::open_right();
-    if !is_bool(open_end(&s, G, 2, true), false) {
-        return false;
-    }
-    is_bool(open_end(&s, G, 2, false), true)
+    let right = open_is(true, &s, G, 2, true, NO);
+    open_is(right, &s, G, 2, false, YES)
 }
 
 fn gap_below_at(at_front: bool) -> bool {
     let s = shapes::open_below();
     let mut store = shapes::apart();
-    if !is_bool(edges::is_open_at_end(&s, T, G, &store, 2, at_front), false) {
+    if open_number(edges::is_open_at_end(&s, T, G, &store, 2, at_front)) != NO {
         return false;
     }
-    let fit = edges::fit_open_edge(&s, T, G, &mut store, 2, at_front, 5);
-    shapes::is_fit(fit, 19, 2, 0)
+    fit_ends(true, &s, &mut store, 2, at_front, 5, 19, 0)
 }
 
 // A gap in the middle of a surface is open at neither end, and parallel to the camber ray.
@@ -261,57 +264,37 @@ pub fn gap_below() -> bool {
 // A gap end that projects below zero is 18, after the first point was found.
 pub fn gap_behind() -> bool {
     let s = shapes::open_across();
-    let old = shapes::pair();
     let mut store = shapes::pair();
-    let fit = edges::fit_open_edge(&s, T, G, &mut store, 2, true, 5);
-    if !shapes::is_fit(fit, 18, 2, 0) {
-        return false;
-    }
-    stores::same_start(&store, &old, 21)
+    let right = fit_ends(true, &s, &mut store, 2, true, 5, 18, 0);
+    is_pair(right, &store, 21)
 }
 
 // A probe without two hits ends the rounds with the point so far, and takes no unit.
 pub fn probe_without_two_hits() -> bool {
     let s = shapes::folded();
-    let old = shapes::pair();
     let mut store = shapes::pair();
-    let fit = edges::fit_open_edge(&s, T, G, &mut store, 2, true, 0);
-    if !shapes::is_fit(fit, 0, 2, 0) {
-        return false;
-    }
-    if !shapes::is_at(fit, 0.0, 1.0) {
-        return false;
-    }
-    stores::same_start(&store, &old, 21)
+    let right = fits_at(&s, &mut store, true, 0, 2, 0, 0.0, 1.0);
+    is_pair(right, &store, 21)
 }
 
-fn fit_at_one_place(section: &[f64]) -> EdgeFit {
+fn at_one_place_ends(right: bool, section: &[f64], number: u32) -> bool {
     let mut store = shapes::at_one_place();
-    edges::fit_open_edge(section, T, G, &mut store, 2, false, 0)
+    fit_ends(right, section, &mut store, 2, false, 0, number, 0)
 }
 
 // Two circles at one place: facing is zero, and the clip line stays as it is turned, to the left.
 pub fn two_circles_at_one_place() -> bool {
-    let left = shapes::open_left();
-    if !shapes::is_fit(fit_at_one_place(&left), 14, 2, 0) {
-        return false;
-    }
-    let right = shapes::open_right();
-    shapes::is_fit(fit_at_one_place(&right), 20, 2, 0)
+    let open_left = shapes::open_left();
+    let open_right = shapes::open_right();
+    let right = at_one_place_ends(true, &open_left, 14);
+    at_one_place_ends(right, &open_right, 20)
 }
 
 // A full store takes its unit and makes the trial before 15, and the order is turned back.
 pub fn full_store() -> bool {
     let s = shapes::open_left();
-    let old = shapes::two_slots();
     let mut store = shapes::two_slots();
-    let fit = edges::fit_open_edge(&s, T, G, &mut store, 2, true, 5);
-    if !shapes::is_fit(fit, 15, 2, 1) {
-        return false;
-    }
-    if !stores::same_start(&store, &old, 20) {
-        return false;
-    }
-    let more = edges::fit_open_edge(&s, T, G, &mut store, 3, true, 5);
-    shapes::is_fit(more, 4, 3, 0)
+    let mut right = fit_ends(true, &s, &mut store, 2, true, 5, 15, 1);
+    right = is_pair(right, &store, 20);
+    fit_ends(right, &s, &mut store, 3, true, 5, 4, 0)
 }

@@ -87,6 +87,33 @@ pub fn pair() -> [f64; 21] {
     ]
 }
 
+// The circle that row P11 accepts, and the two of them behind it.
+pub fn with_the_third() -> [f64; 21] {
+    [
+        2.0,
+        1.00048828125,
+        0.99951171875,
+        2.0,
+        0.0,
+        2.0,
+        2.0,
+        4.0,
+        1.0,
+        1.0,
+        4.0,
+        0.0,
+        4.0,
+        2.0,
+        5.0,
+        1.0,
+        1.0,
+        5.0,
+        0.0,
+        5.0,
+        2.0,
+    ]
+}
+
 // The two of them in a store of two slots.
 pub fn two_slots() -> [f64; 20] {
     [

@@ -14,15 +14,16 @@ use Rattle.runs.specs.Run.{Ending, ended, spent, Out, under, whole}
 use Rattle.runs.proofs.LimitLaws.{compared}
 use Rattle.inscribed.specs.Store.{slots, circlesOf}
 use Rattle.inscribed.specs.declared.Inscribed.{Inscribed}
-use Rattle.refine.specs.Machine.{State, refining, circlesIn, End, measure}
+use Rattle.moves.specs.Machine.{State, refining, circlesIn, End, measure}
 use Rattle.refine.specs.Refinement.{refineStep, refineRun}
 use Rattle.refine.proofs.MachineLaws.{Part, refine-grows}
 use Rattle.ends.specs.Ends.{lastPair}
-use Rattle.gap.specs.Gap.{probed}
+use Rattle.probe.specs.Probe.{probed}
 use Rattle.gap.specs.declared.Gap.{Gap}
-use Rattle.edges.specs.declared.Start.{Start}
 use Rattle.rounds.specs.Rounds.{Fit, fit, Progress, Round, stops, goes, afterRefined, afterOut, afterProbe, round, onward, rounds, firstProgress}
-use Rattle.edges.specs.Fit.{EdgeInput, edgeEntry, endLast, fitStart, fitFrom, fitReported, fitted, fitAfter, fitOf}
+use Rattle.openings.specs.Openings.{endLast, fitStart, fitFrom}
+use Rattle.openings.specs.declared.Start.{Start}
+use Rattle.edges.specs.Fit.{EdgeInput, edgeEntry, fitReported, fitted, fitAfter, fitOf}
 
 module _ (limit more : ℕ) (h : limit ≤ more) (ns : List Float) (tol : Float) (slots : ℕ) where
   abbrev few : ℕ → Bool

@@ -1,28 +1,20 @@
 -- `is_open_at_end` and `fit_open_edge`. Assumes nothing.
 use mathlib.Core.Bool.{Bool, false, cond}
-use mathlib.Core.List.{List, reverse}
-use Prim.Native.Nat.{ℕ, _-_}
+use mathlib.Core.List.{List}
+use Prim.Native.Nat.{ℕ}
 use lib.ListN.{length}
-use lib.Ieee.{Float, lt}
+use lib.Ieee.{Float}
 use Rattle.errors.specs.Answer.{Answer, result, refusal, _>>=_}
-use Rattle.errors.specs.Refusals.{numberOf}
-use Rattle.points.specs.Numbers.{f0}
-use Rattle.line2.specs.Lines.{lineProjection}
-use Rattle.line2.specs.declared.Line2.{Line2}
-use Rattle.curve2.specs.Section.{pointAt, isClosed}
+use Rattle.curve2.specs.Section.{isClosed}
 use Rattle.curve2.specs.Entry.{sectionEntry}
 use Rattle.runs.specs.Run.{Ending, ended, under}
 use Rattle.inscribed.specs.Store.{slots, circlesOf, stored, badStore, badStoreCount}
 use Rattle.inscribed.specs.declared.Inscribed.{Inscribed}
-use Rattle.refine.specs.Refinement.{badGeneral}
-use Rattle.ends.specs.Ends.{lastPair, clipLine}
-use Rattle.ends.specs.declared.Pair.{Pair}
+use Rattle.curve2.specs.Entry.{badGeneral}
 use Rattle.rounds.specs.declared.EdgeFit.{EdgeFit}
-use Rattle.edges.specs.declared.Start.{Start}
-use Rattle.edges.specs.declared.StartAnswer.{StartAnswer}
-use Rattle.gap.specs.Gap.{gapOf, capIntersection}
 use Rattle.rounds.specs.Reached.{listedEdgeEnd}
-use Rattle.rounds.specs.Rounds.{FitEnd, Fit, fit, firstProgress, rounds}
+use Rattle.rounds.specs.Rounds.{FitEnd, Fit}
+use Rattle.openings.specs.Openings.{endLast, beyond, fitStart, fitFrom}
 
 -- what is handed in: a section with its tolerance, a general tolerance, a store with its stated count, and which end is meant
 pub record EdgeInput : Type 0 where
@@ -38,25 +30,10 @@ edgeEntry i =
     sectionEntry (i .section) (i .sectionTol)
     (record { number = badStore (i .store) (i .count); tolerance = badGeneral (i .tol); room = badStoreCount (i .store) (i .count) })
 
--- "at the front the order is turned first": the end that is meant comes last
-abbrev pub endLast : Bool → List Inscribed → List Inscribed
-endLast atFront cs = cond atFront (reverse cs) cs
-
 abbrev pub edgeCircles : EdgeInput → List Inscribed
 edgeCircles i = endLast (i .atFront) (circlesOf (i .store) (i .count))
 
 -- ---- `is_open_at_end`: "says no for a closed section before it counts circles"
-
--- both ends of the section lie beyond a line; the second is worked out only where the first does
-unfoldable pub beyondLine : List Float → Line2 → Answer Bool
-beyondLine ns clip =
-    lineProjection clip (pointAt ns 0) >>= λ a.
-    let both = lineProjection clip (pointAt ns (length ns - 2)) >>= λ b. result (lt f0 b) in
-    cond (lt f0 a) both (result false)
-
-unfoldable pub beyond : List Float → List Inscribed → Answer Bool
-unfolding beyondLine
-beyond ns cs = lastPair cs >>= λ end. clipLine end >>= beyondLine ns
 
 unfoldable pub openAtEnd : EdgeInput → Answer Bool
 unfolding beyond
@@ -65,26 +42,6 @@ openAtEnd i =
     cond (isClosed (i .section) (i .sectionTol)) (result false) (beyond (i .section) (edgeCircles i))
 
 -- ---- `fit_open_edge`
-
-abbrev pub listedStart : StartAnswer → Answer Start
-listedStart (StartAnswer.Value s) = result s
-listedStart (StartAnswer.Refused r) = refusal (numberOf r)
-
--- "7, then the clip line, then 17", then the first point
-unfoldable pub startOf : List Float → Float → Pair → Answer Start
-startOf ns sectionTol end =
-    clipLine end >>= λ clip.
-    gapOf ns sectionTol >>= λ gap.
-    capIntersection end gap >>= λ point.
-    result (record { gap = gap; point = point })
-
-unfoldable pub fitStart : List Float → Float → List Inscribed → Answer Start
-unfolding startOf
-fitStart ns sectionTol cs = lastPair cs >>= startOf ns sectionTol
-
-unfoldable pub fitFrom : List Float → Float → ℕ → (ℕ → Bool) → List Inscribed → Answer Start → Fit
-fitFrom ns tol slots full cs (refusal n) = fit (ended (refusal n)) cs 0
-fitFrom ns tol slots full cs (result s) = rounds ns tol slots full (s .gap) 20 (firstProgress (s .point) cs)
 
 -- what a fit returns and leaves
 pub record FitReport : Type 0 where

@@ -1,40 +1,17 @@
 // The open edge: whether the section is open at an end, and the point where the camber line meets the gap.
 use curve2::AlsoBad;
 use curve2::Entry;
-use ends::Pair;
-use errors::Refusal;
-use errors::ScalarAnswer;
-use gap::Gap;
-use gap::GapAnswer;
-use line2::Line2;
-use line2::LineAnswer;
-use points::Point2;
-use points::PointAnswer;
 use rounds::EdgeFit;
 use sections::BoolAnswer;
 ghost use mathlib.Core.Path.{_≡_};
 ghost use Prim.Native.Nat.{_*_, _≤_};
 ghost use lib.ListN.{length};
-ghost use Rattle.errors.specs.Answer.{result};
 ghost use Rattle.curve2.specs.Entry.{HasPoints, listedEntry};
 ghost use Rattle.runs.specs.Run.{under};
 ghost use Rattle.inscribed.specs.Store.{circlesOf, stored};
 ghost use Rattle.sections.specs.Asked.{listedBool};
-ghost use Rattle.ends.specs.Ends.{lastPair};
-ghost use Rattle.rounds.specs.Reached.{Fits};
-ghost use Rattle.edges.specs.Fit.{edgeEntry, endLast, beyondLine, beyond, openAtEnd, startOf, listedStart, fitStart, fitFrom, fitted, fitOf, listedFit};
-
-// Where the rounds of a fit start: the gap, and the first point on it.
-pub struct Start {
-    pub gap: Gap,
-    pub point: Point2,
-}
-
-// That, or why there is none.
-pub enum StartAnswer {
-    Value(Start),
-    Refused(Refusal),
-}
+ghost use Rattle.openings.specs.Openings.{endLast};
+ghost use Rattle.edges.specs.Fit.{edgeEntry, openAtEnd, fitted, fitOf, listedFit};
 
 // The entry tests of an edge.
 fn entered(
@@ -48,7 +25,7 @@ fn entered(
     ensures { λ r. ⌜ listedEntry r ≡ edgeEntry (record { section = now (section .entry); sectionTol = «section_tol»; tol = tol; store = now (store .entry); count = count; atFront = «at_front» }) ⌝ }
 {
     let number = inscribed::store::has_bad_circle(store, count);
-    let tolerance = refine::is_bad_general(tol);
+    let tolerance = curve2::is_bad_general(tol);
     let room = inscribed::store::is_bad_store_count(store, count);
     let also = AlsoBad {
         number,
@@ -56,60 +33,6 @@ fn entered(
         room,
     };
     curve2::section_entry(section, section_tol, also)
-}
-
-// The first point of the fit, from the last two circles on: the clip line is worked out before 17 is asked.
-fn start_of(section: &[f64], section_tol: f64, end: Pair) -> StartAnswer
-    requires { ⌜ HasPoints (now section) ⌝ }
-    ensures { λ r. ⌜ listedStart r ≡ startOf (now (section .entry)) «section_tol» end ⌝ }
-{
-    match ends::clip_line(end) {
-        LineAnswer::Value(_) => match gap::open_gap_segment(section, section_tol) {
-            GapAnswer::Value(gap) => match gap::end_cap_intersection(end, gap) {
-                PointAnswer::Value(point) => StartAnswer::Value(Start { gap, point }),
-                PointAnswer::Refused(r) => StartAnswer::Refused(r),
-            },
-            GapAnswer::Refused(r) => StartAnswer::Refused(r),
-        },
-        LineAnswer::Refused(r) => StartAnswer::Refused(r),
-    }
-}
-
-// Where the rounds start: 7 where the store holds fewer than two circles.
-fn fit_start(section: &[f64], section_tol: f64, store: &[f64], count: usize) -> StartAnswer
-    requires { ⌜ HasPoints (now section) ⌝ }
-    requires { ⌜ count * 7 ≤ length (now store) ⌝ }
-    ensures { λ r. ⌜ listedStart r ≡ fitStart (now (section .entry)) «section_tol» (circlesOf (now (store .entry)) count) ⌝ }
-{
-    if count < 2 {
-        return StartAnswer::Refused(Refusal::TooFewCircles);
-    }
-    let end = ends::last_pair(store, count);
-    start_of(section, section_tol, end)
-}
-
-// The fit at the end of the last circles.
-fn fit_at_back(
-    section: &[f64],
-    section_tol: f64,
-    tol: f64,
-    store: &mut [f64],
-    slots: usize,
-    count: usize,
-    limit: u32,
-) -> EdgeFit
-    requires { ⌜ HasPoints (now section) ⌝ }
-    requires { ⌜ (count ≤ slots) × (slots * 7 ≤ length (now store)) ⌝ }
-    ensures { λ r. ⌜ Fits (fitFrom (now (section .entry)) tol slots (under limit) (circlesOf (now (store .entry)) count) (fitStart (now (section .entry)) «section_tol» (circlesOf (now (store .entry)) count))) (now (store .entry)) (now (store .exit)) r ⌝ }
-{
-    match fit_start(section, section_tol, store, count) {
-        StartAnswer::Value(s) => {
-            let gap = s.gap;
-            let point = s.point;
-            rounds::rounds(section, tol, store, slots, count, gap, point, limit)
-        }
-        StartAnswer::Refused(r) => rounds::refused(r, count, 0),
-    }
 }
 
 // Turns the order of the first circles of a store, where the front is meant.
@@ -138,7 +61,7 @@ fn fit(
     ensures { λ r. ⌜ listedFit r (now (store .exit)) ≡ fitted (now (section .entry)) «section_tol» tol slots (under limit) «at_front» (now (store .entry)) count ⌝ }
 {
     turn(store, count, at_front);
-    let r = fit_at_back(section, section_tol, tol, store, slots, count, limit);
+    let r = openings::fit_at_back(section, section_tol, tol, store, slots, count, limit);
     let n = r.count;
     turn(store, n, at_front);
     r
@@ -174,57 +97,6 @@ pub fn fit_open_edge(
     }
 }
 
-// The two circles at the end that is meant, the outermost last.
-fn end_pair(store: &[f64], count: usize, at_front: bool) -> Pair
-    requires { ⌜ (2 ≤ count) × (count * 7 ≤ length (now store)) ⌝ }
-    ensures { λ r. ⌜ lastPair (endLast «at_front» (circlesOf (now (store .entry)) count)) ≡ result r ⌝ }
-{
-    if at_front {
-        let before = inscribed::store::circle_at(store, 1);
-        let last = inscribed::store::circle_at(store, 0);
-        return Pair { before, last };
-    }
-    ends::last_pair(store, count)
-}
-
-// Whether both ends of the section lie beyond a line.
-fn is_beyond(section: &[f64], clip: Line2) -> BoolAnswer
-    requires { ⌜ HasPoints (now section) ⌝ }
-    ensures { λ r. ⌜ listedBool r ≡ beyondLine (now (section .entry)) clip ⌝ }
-{
-    let end = section.len() / 2 - 1;
-    let p = stations::vertices::vertex_at(section, 0);
-    let q = stations::vertices::vertex_at(section, end);
-    match clip.scalar_project(p) {
-        ScalarAnswer::Value(a) => {
-            if !(0.0 < a) {
-                return BoolAnswer::Value(false);
-            }
-            match clip.scalar_project(q) {
-                ScalarAnswer::Value(b) => BoolAnswer::Value(0.0 < b),
-                ScalarAnswer::Refused(r) => BoolAnswer::Refused(r),
-            }
-        }
-        ScalarAnswer::Refused(r) => BoolAnswer::Refused(r),
-    }
-}
-
-// Whether both ends of an open section lie beyond the end of the circles that is meant.
-fn is_beyond_end(section: &[f64], store: &[f64], count: usize, at_front: bool) -> BoolAnswer
-    requires { ⌜ HasPoints (now section) ⌝ }
-    requires { ⌜ count * 7 ≤ length (now store) ⌝ }
-    ensures { λ r. ⌜ listedBool r ≡ beyond (now (section .entry)) (endLast «at_front» (circlesOf (now (store .entry)) count)) ⌝ }
-{
-    if count < 2 {
-        return BoolAnswer::Refused(Refusal::TooFewCircles);
-    }
-    let end = end_pair(store, count, at_front);
-    match ends::clip_line(end) {
-        LineAnswer::Value(clip) => is_beyond(section, clip),
-        LineAnswer::Refused(r) => BoolAnswer::Refused(r),
-    }
-}
-
 // Whether the section is open at one end of its circles: no for a closed section, before the circles are counted.
 pub fn is_open_at_end(
     section: &[f64],
@@ -241,7 +113,7 @@ pub fn is_open_at_end(
             if curve2::is_closed(section, section_tol) {
                 return BoolAnswer::Value(false);
             }
-            is_beyond_end(section, store, count, at_front)
+            openings::is_beyond_end(section, store, count, at_front)
         }
         Entry::Refused(r) => BoolAnswer::Refused(r),
     }

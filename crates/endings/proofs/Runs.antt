@@ -16,14 +16,16 @@ use Rattle.inscribed.specs.Store.{slots, circlesOf}
 use Rattle.runs.specs.Run.{Move, ends, goes, pays, ended, spent, under, run, whole}
 use Rattle.runs.proofs.LimitLaws.{run-holds, ended-step}
 use Rattle.halving.specs.Halving.{fromCrossing}
-use Rattle.halving.specs.Trial.{trial}
-use Rattle.refine.specs.Machine.{State, refining, advancing, over, End, finished, lastOf, afterTrial, refineMove, measure}
-use Rattle.refine.specs.Report.{Report, reported, listedEnd, endNumber, listedRun}
+use Rattle.trial.specs.Trial.{trial}
+use Rattle.moves.specs.Machine.{State, refining, advancing, over, End, finished, lastOf, withRoom, afterRoom, afterTrial, refineMove, measure}
+use Rattle.moves.specs.Report.{Report, reported, listedEnd, endNumber, listedRun}
 use Rattle.refine.specs.Refinement.{refineStep, Offer, refineEntry, afterEntry, refinement, refineOf}
-use Rattle.refine.specs.declared.Run.{Run}
-use Rattle.refine.specs.declared.RunEnd.{RunEnd}
-use Rattle.advance.specs.Advance.{Ahead, done, along, lookAhead, stepOf, triedLine}
-use Rattle.camber.specs.March.{afterCircle, afterLine, advanceMove, marchStep, Marched, marchEntry, marchStart, startOf, afterStart, march, marchOf}
+use Rattle.moves.specs.declared.Run.{Run}
+use Rattle.moves.specs.declared.RunEnd.{RunEnd}
+use Rattle.ahead.specs.Ahead.{Ahead, done, along, lookAhead}
+use Rattle.advance.specs.Advance.{stepOf, triedLine}
+use Rattle.circles.specs.Asked.{circleEntry, tryAsked}
+use Rattle.camber.specs.March.{afterCircle, afterLine, advanceMove, marchStep, Marched, startOf, afterStart, march, marchOf}
 use Rattle.endings.specs.Unspent.{Unspent, good, other}
 use Rattle.endings.proofs.Steps.{in-a-row, trial-steps, ahead-steps, line-steps, crossing-circle-steps, first-steps, entry-steps}
 
@@ -52,16 +54,16 @@ module _ (step : State → Move State End) (calm : (s : State) → Calm s → Ca
 -- ---- the moves while circles wait
 
 trial-calm : (slots : ℕ) (cs : List Inscribed) (b : Inscribed) (ws : List Inscribed) (r : Answer (Option Inscribed)) → Unspent r → Calm (afterTrial slots cs b ws r)
-unfolding afterTrial
+unfolding afterTrial withRoom
 trial-calm slots cs b ws (refusal n) (other m h) = h
 trial-calm slots cs b ws (result (some d)) h = go (leb 64 (suc (length ws)))
   where
-    go : (x : Bool) → Calm (cond x (over cs 16) (refining cs (d ∷ (b ∷ ws))))
+    go : (x : Bool) → Calm (afterRoom cs b ws (cond x (refusal 16) (result (some d))))
     go true = λ e. omega (arith, e)
     go false = tt
 trial-calm slots cs b ws (result none) h = go (leb slots (length cs))
   where
-    go : (x : Bool) → Calm (cond x (over cs 15) (refining (cs ++ (b ∷ [])) ws))
+    go : (x : Bool) → Calm (afterRoom cs b ws (cond x (refusal 15) (result none)))
     go true = λ e. omega (arith, e)
     go false = tt
 
@@ -134,7 +136,7 @@ refinement-unspent o full e = go (refineEntry o) (entry-steps _ _ _)
     go (result passed) h p = run-calm (refineStep (o .section) (o .tol) (slots (o .store))) (refine-calm (o .section) (o .tol) (slots (o .store))) full (suc (measure (slots (o .store)) (start o))) (start o) 0 tt e p
 
 start-steps : (m : Marched) → Unspent (startOf m)
-unfolding marchStart marchEntry
+unfolding tryAsked circleEntry
 start-steps m = in-a-row _ _ (entry-steps _ _ _) (λ passed. first-steps (m .section) (m .tol) (m .line))
 
 pub march-unspent : (m : Marched) (full : ℕ → Bool) (e : End) → march m full .ending ≡ ended e → Unspent e

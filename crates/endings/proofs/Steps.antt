@@ -8,16 +8,18 @@ use lib.ListN.{length}
 use lib.Ieee.{Float, inf, lt, le, eq}
 use lib.Ieee.Scale.{finite}
 use Rattle.errors.specs.Answer.{Answer, result, refusal, watched, _>>=_}
+use Rattle.errors.specs.Numbers.{isPlus}
 use Rattle.root.specs.Sqrt.{sqrtOf}
 use Rattle.points.specs.Numbers.{_+f_, _-f_, _*f_, _/f_, f0, f½, f1, tiny, within}
 use Rattle.points.specs.Points.{watchedPoint, watchedVector, minus, moved, plus, over, rotated, difference, dotOf, normOf, distOf, normalized}
 use Rattle.points.specs.declared.Point2.{Point2}
 use Rattle.points.specs.declared.Vector2.{Vector2}
 use Rattle.points.specs.declared.AngleDir.the-variants.{Cw, Ccw}
-use Rattle.line2.specs.Lines.{lineOf, lineThrough, atParam, rayNormalized, rayProjection, atDistance, halfwayRay, rotatedRay, rayLine}
+use Rattle.line2.specs.Lines.{lineOf, lineThrough, atParam}
+use Rattle.surface2.specs.Rays.{rayNormalized, rayProjection, atDistance, halfwayRay, rotatedRay, rayLine}
 use Rattle.line2.specs.Intersection.{determinant, lineFraction, edgeFraction, intersectionParam}
 use Rattle.line2.specs.declared.Line2.{Line2}
-use Rattle.line2.specs.declared.SurfacePoint2.{SurfacePoint2}
+use Rattle.surface2.specs.declared.SurfacePoint2.{SurfacePoint2}
 use Rattle.segment2.specs.Closest.{fractionOn, heldPoint, measuredTo, closestOnEdge}
 use Rattle.segment2.specs.declared.EdgePoint.{EdgePoint}
 use Rattle.curve2.specs.Section.{pointsOf}
@@ -25,15 +27,15 @@ use Rattle.curve2.specs.Entry.{badCount, badNumbers, badTolerance, notSpaced, s
 use Rattle.curve2.specs.declared.AlsoBad.{AlsoBad}
 use Rattle.queries.specs.Edges.{Edge, sectionEdges}
 use Rattle.queries.specs.Hits.{edgeHit, hitsFrom, sorted, dropped, nearbyOnEdge}
-use Rattle.queries.specs.Crossing.{Span, spanOf, spanned, crossed, crossingWith, crossingOf, orNoCrossing}
+use Rattle.queries.specs.Crossing.{Span, spanOf, spanned, crossed, crossingWith, crossingOf}
 use Rattle.queries.specs.Nearest.{closestOnAll, leastOfAll, nearestOf}
 use Rattle.queries.specs.declared.Crossing.{Crossing}
 use Rattle.inscribed.specs.Circles.{center, contact0, contact1, contactDir, camberPoint}
 use Rattle.inscribed.specs.declared.Inscribed.{Inscribed}
 use Rattle.halving.specs.Halving.{Ends, halved, between, isWide, halving, resolveTol, twoToMinus52, firstEnds, fromLine, fromCrossing}
-use Rattle.halving.specs.Trial.{circleOn, tryInscribed, sizeOf, middleRadius, judged, trial}
-use Rattle.advance.specs.Advance.{isPlus, farther, farthest, along, lookAhead, stepOf, wideEnough, triedLine}
-use Rattle.camber.specs.March.{firstCircle}
+use Rattle.trial.specs.Trial.{circleOn, tryInscribed, orNoCircle, inscribedOn, sizeOf, middleRadius, judged, trial}
+use Rattle.ahead.specs.Ahead.{farther, farthest, along, lookAhead}
+use Rattle.advance.specs.Advance.{stepOf, wideEnough, triedLine}
 use Rattle.endings.specs.Unspent.{Unspent, good, other}
 
 -- ---- steps in a row, and a choice
@@ -227,13 +229,13 @@ line-steps ns c ray k = in-a-row _ _ (distance-steps ray (stepOf c k)) (λ o. in
 pub crossing-circle-steps : (ns : List Float) (tol : Float) (x : Crossing) → Unspent (fromCrossing ns tol x)
 crossing-circle-steps ns tol x = circle-steps ns tol (x .line)
 
-two-hits-steps : (found : Option Crossing) → Unspent (orNoCrossing found)
-two-hits-steps none = other 8 (λ e. omega (arith, e))
-two-hits-steps (some x) = good _
+no-circle-steps : (found : Option Inscribed) → Unspent (orNoCircle found)
+no-circle-steps none = other 8 (λ e. omega (arith, e))
+no-circle-steps (some c) = good _
 
-pub first-steps : (ns : List Float) (tol : Float) (l : Line2) → Unspent (firstCircle ns tol l)
-unfolding firstCircle
-first-steps ns tol l = in-a-row _ _ (crossing-steps ns l) (λ found. in-a-row _ _ (two-hits-steps found) (λ x. crossing-circle-steps ns tol x))
+pub first-steps : (ns : List Float) (tol : Float) (l : Line2) → Unspent (inscribedOn ns tol l)
+unfolding inscribedOn
+first-steps ns tol l = in-a-row _ _ (tried-steps ns tol l) no-circle-steps
 
 -- ---- the entry tests
 

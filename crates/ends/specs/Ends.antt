@@ -7,9 +7,10 @@ use Rattle.points.specs.Numbers.{f0}
 use Rattle.points.specs.Points.{rotated, difference, dotOf, midPointOf}
 use Rattle.points.specs.declared.Vector2.{Vector2}
 use Rattle.points.specs.declared.AngleDir.the-variants.{Ccw}
-use Rattle.line2.specs.Lines.{lineNormalized, reversedLine, rayNormalized}
+use Rattle.line2.specs.Lines.{lineNormalized, reversedLine}
+use Rattle.surface2.specs.Rays.{rayNormalized}
 use Rattle.line2.specs.declared.Line2.{Line2}
-use Rattle.line2.specs.declared.SurfacePoint2.{SurfacePoint2}
+use Rattle.surface2.specs.declared.SurfacePoint2.{SurfacePoint2}
 use Rattle.inscribed.specs.Circles.{center, contact0, contact1, contactDir}
 use Rattle.inscribed.specs.declared.Inscribed.{Inscribed}
 use Rattle.ends.specs.declared.Pair.{Pair}

@@ -1,8 +1,9 @@
-// The numbered refusals, and the test that every watched value goes through.
+// The numbered refusals, the test that every watched value goes through, and the test of a sign.
 
 ghost use mathlib.Core.Path.{_≡_};
 ghost use lib.Ieee.Scale.{finite};
 ghost use Rattle.errors.specs.Answer.{watched};
+ghost use Rattle.errors.specs.Numbers.{isPlus};
 ghost use Rattle.errors.specs.Refusals.{numberOf, listedScalar};
 
 // Why no result is returned. The comment at each case is its meaning; `numberOf` in specs/ lists the number.
@@ -89,6 +90,16 @@ pub fn is_finite(x: f64) -> bool
 {
     let top = 1.0 / 0.0;
     if -top < x { x < top } else { false }
+}
+
+// Whether the sign bit is clear: one over a zero is an infinity with its sign.
+pub fn is_plus(x: f64) -> bool
+    ensures { λ r. ⌜ r ≡ isPlus x ⌝ }
+{
+    if x == 0.0 {
+        return 0.0 < 1.0 / x;
+    }
+    !(x < 0.0)
 }
 
 // A value that is watched: 12 where it is infinite or NaN.

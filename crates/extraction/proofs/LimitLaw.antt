@@ -14,12 +14,14 @@ use Rattle.runs.proofs.LimitLaws.{compared}
 use Rattle.inscribed.specs.Store.{slots, stored}
 use Rattle.inscribed.specs.declared.Inscribed.{Inscribed}
 use Rattle.turning.specs.Turned.{turned}
-use Rattle.refine.specs.Machine.{State, refining, circlesIn, End, measure}
-use Rattle.refine.specs.Report.{reported}
+use Rattle.moves.specs.Machine.{State, refining, circlesIn, End, measure}
+use Rattle.moves.specs.Report.{reported}
 use Rattle.refine.proofs.MachineLaws.{Part}
-use Rattle.camber.specs.March.{Marched, marchStep, marchRun, firstCircle, startOf, startedRun}
+use Rattle.trial.specs.Trial.{inscribedOn}
+use Rattle.camber.specs.March.{Marched, marchStep, marchRun, startOf, startedRun}
 use Rattle.camber.proofs.MarchMachine.{march-grows}
-use Rattle.extraction.specs.Extraction.{behind, secondMarch, secondHalf, afterFirst, firstHalf, extractionFrom, extractionOf}
+use Rattle.halves.specs.Halves.{behind, secondMarch, secondHalf}
+use Rattle.extraction.specs.Extraction.{afterFirst, firstHalf, extractionFrom, extractionOf}
 
 module _ (limit more : ℕ) (h : limit ≤ more) where
   -- one march, from any count of units on
@@ -41,7 +43,7 @@ module _ (limit more : ℕ) (h : limit ≤ more) where
     after-larger : (o : Out State End) (e : Ending End) → (afterFirst m (under limit) o e .ending ≡ spent → ⊥) → afterFirst m (under more) o e ≡ afterFirst m (under limit) o e
     unfolding afterFirst secondHalf
     after-larger o (ended (result done)) f =
-        second-larger (m .section) (m .tol) (slots (m .store)) (stored (turned (circlesIn (o .state))) (m .store)) (length (circlesIn (o .state)) - 1) (o .units) (firstCircle (m .section) (m .tol) (reversedLine (m .line))) f
+        second-larger (m .section) (m .tol) (slots (m .store)) (stored (turned (circlesIn (o .state))) (m .store)) (length (circlesIn (o .state)) - 1) (o .units) (inscribedOn (m .section) (m .tol) (reversedLine (m .line))) f
     after-larger o (ended (refusal n)) f = refl
     after-larger o spent f = refl
     after-larger o unfinished f = refl

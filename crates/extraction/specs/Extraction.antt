@@ -1,34 +1,14 @@
 -- "march, turn order and contacts, drop the last, march from the reversed line". Assumes nothing.
 use mathlib.Core.Bool.{Bool}
-use mathlib.Core.List.{List, [], _∷_, _++_}
-use Prim.Native.Nat.{ℕ, _+_, _-_, _*_}
-use lib.ListN.{length, take, drop}
-use lib.Ieee.{Float}
+use Prim.Native.Nat.{ℕ}
 use Rattle.errors.specs.Answer.{Answer, result, refusal}
-use Rattle.line2.specs.Lines.{reversedLine}
-use Rattle.line2.specs.declared.Line2.{Line2}
 use Rattle.runs.specs.Run.{Ending, ended, spent, unfinished, Out, under}
-use Rattle.inscribed.specs.Store.{width, slots, stored}
+use Rattle.inscribed.specs.Store.{slots}
 use Rattle.inscribed.specs.declared.Inscribed.{Inscribed}
-use Rattle.turning.specs.Turned.{turned}
-use Rattle.refine.specs.Machine.{State, refining, circlesIn, End}
-use Rattle.refine.specs.Report.{Report, reported, refusedOnEntry}
-use Rattle.camber.specs.March.{Marched, marchRun, firstCircle, startOf, startedRun}
-
--- "into the part of the store that starts behind the first": what a run in the part behind k circles leaves of the whole
-unfoldable pub behind : ℕ → List Float → Report → Report
-behind k store r = record { ending = r .ending; count = k + r .count; units = r .units; store = take (k * width) store ++ r .store }
-
--- the second march, "with the slots the whole has left"; refused before it holds a circle, it leaves the turned order
-unfoldable pub secondMarch : List Float → Float → ℕ → (ℕ → Bool) → List Float → ℕ → ℕ → Answer Inscribed → Report
-unfolding behind
-secondMarch ns tol slots full store k u (refusal n) = record { ending = ended (refusal n); count = k; units = u; store = store }
-secondMarch ns tol slots full store k u (result c) = behind k store (reported (drop (k * width) store) (marchRun ns tol (slots - k) full (refining [] (c ∷ [])) u))
-
--- after a finished first march of the circles cs, whose units are u: "the dropped slot keeps its numbers until overwritten"
-unfoldable pub secondHalf : List Float → Float → Line2 → ℕ → (ℕ → Bool) → List Float → List Inscribed → ℕ → Report
-unfolding secondMarch
-secondHalf ns tol l slots full old cs u = secondMarch ns tol slots full (stored (turned cs) old) (length cs - 1) u (firstCircle ns tol (reversedLine l))
+use Rattle.moves.specs.Machine.{State, circlesIn, End}
+use Rattle.moves.specs.Report.{Report, reported, refusedOnEntry}
+use Rattle.camber.specs.March.{Marched, startOf, startedRun}
+use Rattle.halves.specs.Halves.{secondHalf}
 
 -- "Refused in the first half it leaves the marched order"
 unfoldable pub afterFirst : Marched → (ℕ → Bool) → Out State End → Ending End → Report

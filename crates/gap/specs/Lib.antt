@@ -1,2 +1,2 @@
--- The gap of an open section: where the camber line meets it, and the probe into it.
+-- The gap of an open section, and where the camber line meets it.
 pub mod Gap

@@ -1,6 +1,4 @@
--- The circle of a crossing, by halving, and the trial between two circles.
+-- The circle of a crossing, by halving.
 pub mod Halving
 pub mod Ends
 pub mod SourceLoop
-pub mod Trial
-pub mod Tried

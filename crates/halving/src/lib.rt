@@ -1,4 +1,4 @@
-// The circle of a crossing, by halving, and the trial between two circles.
+// The circle of a crossing, by halving.
 use errors::Refusal;
 use errors::ScalarAnswer;
 use inscribed::Inscribed;
@@ -14,8 +14,6 @@ ghost use Rattle.curve2.specs.Entry.{HasPoints};
 ghost use Rattle.inscribed.specs.Circles.{listedInscribed};
 ghost use Rattle.halving.specs.Halving.{halved, between, isWide, halving, fromLine, fromCrossing};
 ghost use Rattle.halving.specs.Ends.{endsOf, movedEnds, halvedFrom, listedEnds};
-
-pub mod trial;
 
 // 2 to the power -52.
 const TWO_TO_MINUS_52: f64 = 2.220446049250313e-16;

@@ -6,8 +6,8 @@ use Rattle.points.specs.Points.{minus, rotated}
 use Rattle.points.specs.declared.Point2.{Point2}
 use Rattle.points.specs.declared.Vector2.{Vector2}
 use Rattle.points.specs.declared.AngleDir.the-variants.{Cw}
-use Rattle.line2.specs.Lines.{rayNormalized}
-use Rattle.line2.specs.declared.SurfacePoint2.{SurfacePoint2}
+use Rattle.surface2.specs.Rays.{rayNormalized}
+use Rattle.surface2.specs.declared.SurfacePoint2.{SurfacePoint2}
 use Rattle.curve2.specs.Section.{point}
 use Rattle.inscribed.specs.declared.Inscribed.{Inscribed}
 use Rattle.inscribed.specs.declared.InscribedAnswer.{InscribedAnswer}

@@ -1,12 +1,12 @@
 // Inscribed circles: the circle, and the store that holds its seven numbers.
 use errors::Refusal;
-use line2::SurfacePoint2;
-use line2::SurfacePointAnswer;
 use points::AngleDir;
 use points::Point2;
 use points::Vector2;
+use surface2::SurfacePoint2;
+use surface2::SurfacePointAnswer;
 ghost use mathlib.Core.Path.{_≡_};
-ghost use Rattle.line2.specs.Listed.{listedRay};
+ghost use Rattle.surface2.specs.Listed.{listedRay};
 ghost use Rattle.inscribed.specs.Circles.{center, contactDir, camberPoint, reversedPoints};
 
 pub mod store;

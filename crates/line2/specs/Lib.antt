@@ -1,4 +1,4 @@
--- Lines and surface points: what each step gives, bit for bit.
+-- Lines: what each step gives, bit for bit.
 pub mod Lines
 pub mod Intersection
 pub mod Listed

@@ -1,12 +1,13 @@
 // What is told of the circles of a store: the thickest, the spacing, both ends, the clip line.
+// A function with `right` first says whether it was right so far and the case comes out as wanted too.
 use curve2::Entry;
 use ends::Pair;
 use errors::ScalarAnswer;
 use inscribed::Inscribed;
 use line2::LineAnswer;
-use line2::SurfacePointAnswer;
-use lists::FrontAndBackAnswer;
 use lists::PlaceAnswer;
+use measures::FrontAndBackAnswer;
+use surface2::SurfacePointAnswer;
 
 // Circles on an axis: centre (x, 0), radius r, contacts straight below and above.
 pub fn three(x0: f64, x1: f64, x2: f64, r0: f64, r1: f64, r2: f64) -> [f64; 21] {
@@ -35,17 +36,35 @@ pub fn three(x0: f64, x1: f64, x2: f64, r0: f64, r1: f64, r2: f64) -> [f64; 21] 
     ]
 }
 
-fn is_place(a: PlaceAnswer, place: usize) -> bool {
+// Right so far, and two numbers are equal.
+pub fn is(right: bool, x: f64, wanted: f64) -> bool {
+    if x != wanted {
+        return false;
+    }
+    right
+}
+
+fn is_place(right: bool, a: PlaceAnswer, place: usize) -> bool {
     match a {
-        PlaceAnswer::Value(k) => k == place,
+        PlaceAnswer::Value(k) => {
+            if k != place {
+                return false;
+            }
+            right
+        }
         PlaceAnswer::Refused(_) => false,
     }
 }
 
-fn is_no_place(a: PlaceAnswer, number: u32) -> bool {
+fn is_no_place(right: bool, a: PlaceAnswer, number: u32) -> bool {
     match a {
         PlaceAnswer::Value(_) => false,
-        PlaceAnswer::Refused(r) => errors::number(r) == number,
+        PlaceAnswer::Refused(r) => {
+            if errors::number(r) != number {
+                return false;
+            }
+            right
+        }
     }
 }
 
@@ -56,58 +75,47 @@ fn is_scalar(a: ScalarAnswer, wanted: f64) -> bool {
     }
 }
 
-fn is_no_scalar(a: ScalarAnswer, number: u32) -> bool {
+fn is_no_scalar(right: bool, a: ScalarAnswer, number: u32) -> bool {
     match a {
         ScalarAnswer::Value(_) => false,
-        ScalarAnswer::Refused(r) => errors::number(r) == number,
+        ScalarAnswer::Refused(r) => {
+            if errors::number(r) != number {
+                return false;
+            }
+            right
+        }
     }
 }
 
 // The last of equal radii, -0 equal to 0, and place 0 of no circle.
 pub fn thickest() -> bool {
     let equal = three(0.0, 1.0, 2.0, 3.0, 3.0, 2.0);
-    if !is_place(lists::index_of_tmax(&equal, 3), 1) {
-        return false;
-    }
     let zeros = three(0.0, 1.0, 2.0, 0.0, -0.0, -0.0);
-    if !is_place(lists::index_of_tmax(&zeros, 2), 1) {
-        return false;
-    }
-    is_place(lists::index_of_tmax(&zeros, 0), 0)
+    let mut right = is_place(true, lists::index_of_tmax(&equal, 3), 1);
+    right = is_place(right, lists::index_of_tmax(&zeros, 2), 1);
+    is_place(right, lists::index_of_tmax(&zeros, 0), 0)
 }
 
 // Every number of every circle in use is tested, also one that the call doesn't read, and before 4.
 pub fn numbers_before_counts() -> bool {
     let mut store = three(0.0, 1.0, 2.0, 3.0, 3.0, 2.0);
-    if !is_no_place(lists::index_of_tmax(&store, 4), 4) {
-        return false;
-    }
+    let mut right = is_no_place(true, lists::index_of_tmax(&store, 4), 4);
     store[19] = 0.0 / 0.0;
-    if !is_place(lists::index_of_tmax(&store, 2), 1) {
-        return false;
-    }
-    if !is_no_place(lists::index_of_tmax(&store, 3), 2) {
-        return false;
-    }
-    if !is_no_place(lists::index_of_tmax(&store, 4), 2) {
-        return false;
-    }
+    right = is_place(right, lists::index_of_tmax(&store, 2), 1);
+    right = is_no_place(right, lists::index_of_tmax(&store, 3), 2);
+    right = is_no_place(right, lists::index_of_tmax(&store, 4), 2);
     store[19] = 0.0;
     store[16] = -1.0;
-    is_no_scalar(lists::average_spacing(&store, 3), 2)
+    is_no_scalar(right, lists::average_spacing(&store, 3), 2)
 }
 
 // Sums in order, divides once.
 pub fn spacing() -> bool {
     let store = three(0.0, 5.0, 7.0, 1.0, 1.0, 1.0);
-    if !is_scalar(lists::average_spacing(&store, 3), 3.5) {
-        return false;
-    }
-    if !is_no_scalar(lists::average_spacing(&store, 1), 7) {
-        return false;
-    }
     let far = three(0.0, 1e200, 0.0, 1.0, 1.0, 1.0);
-    is_no_scalar(lists::average_spacing(&far, 2), 12)
+    let mut right = is_scalar(lists::average_spacing(&store, 3), 3.5);
+    right = is_no_scalar(right, lists::average_spacing(&store, 1), 7);
+    is_no_scalar(right, lists::average_spacing(&far, 2), 12)
 }
 
 // No circle has no ends, one circle is both.
@@ -143,31 +151,33 @@ fn clip_number(store: &[f64], count: usize) -> u32 {
     }
 }
 
+// The clip line of two circles: one at x0, and one at x1 whose contacts are (0, 0) and (p1x, p1y).
+fn flat_clip_ends(right: bool, x0: f64, x1: f64, p1x: f64, p1y: f64, number: u32) -> bool {
+    let mut store = three(0.0, 5.0, 7.0, 1.0, 1.0, 1.0);
+    store[0] = x0;
+    store[7] = x1;
+    store[10] = 0.0;
+    store[11] = 0.0;
+    store[12] = p1x;
+    store[13] = p1y;
+    if clip_number(&store, 2) != number {
+        return false;
+    }
+    right
+}
+
 // A length goes as its squares, and 12 of facing comes before 11.
 pub fn clip_lines() -> bool {
-    let mut store = three(0.0, 5.0, 7.0, 1.0, 1.0, 1.0);
+    let store = three(0.0, 5.0, 7.0, 1.0, 1.0, 1.0);
     if clip_number(&store, 1) != 7 {
         return false;
     }
     if clip_number(&store, 2) != 0 {
         return false;
     }
-    store[10] = 0.0;
-    store[11] = 0.0;
-    store[12] = 1e-170;
-    store[13] = 0.0;
-    if clip_number(&store, 2) != 11 {
-        return false;
-    }
-    store[12] = 0.0;
-    store[13] = 2e154;
-    if clip_number(&store, 2) != 12 {
-        return false;
-    }
-    store[13] = 0.0;
-    store[0] = 1e308;
-    store[7] = -1e308;
-    clip_number(&store, 2) == 12
+    let mut right = flat_clip_ends(true, 0.0, 5.0, 1e-170, 0.0, 11);
+    right = flat_clip_ends(right, 0.0, 5.0, 0.0, 2e154, 12);
+    flat_clip_ends(right, 1e308, -1e308, 0.0, 0.0, 12)
 }
 
 fn circle(cx: f64, p1x: f64, p1y: f64) -> Inscribed {
@@ -200,40 +210,33 @@ pub fn normalised_twice() -> bool {
     }
 }
 
+// Right so far, and the call passed, which is 0, or was refused.
+fn entry_is(right: bool, e: Entry, number: u32) -> bool {
+    match e {
+        Entry::Passed => {
+            if number != 0 {
+                return false;
+            }
+            right
+        }
+        Entry::Refused(r) => {
+            if errors::number(r) != number {
+                return false;
+            }
+            right
+        }
+    }
+}
+
 // Order and contacts in the store; a refusal changes nothing.
 pub fn turned_in_place() -> bool {
     let mut store = three(2.0, 5.0, 7.0, 1.0, 1.0, 1.0);
-    match lists::reverse_order_only(&mut store, 3) {
-        Entry::Passed => {}
-        Entry::Refused(_) => {
-            return false;
-        }
-    }
-    if store[0] != 7.0 {
-        return false;
-    }
-    if store[4] != -1.0 {
-        return false;
-    }
-    match lists::reverse_order(&mut store, 3) {
-        Entry::Passed => {}
-        Entry::Refused(_) => {
-            return false;
-        }
-    }
-    if store[0] != 2.0 {
-        return false;
-    }
-    if store[4] != 1.0 {
-        return false;
-    }
-    match lists::reverse_points(&mut store, 4) {
-        Entry::Passed => false,
-        Entry::Refused(r) => {
-            if errors::number(r) != 4 {
-                return false;
-            }
-            store[4] == 1.0
-        }
-    }
+    let mut right = entry_is(true, lists::reverse_order_only(&mut store, 3), 0);
+    right = is(right, store[0], 7.0);
+    right = is(right, store[4], -1.0);
+    right = entry_is(right, lists::reverse_order(&mut store, 3), 0);
+    right = is(right, store[0], 2.0);
+    right = is(right, store[4], 1.0);
+    right = entry_is(right, lists::reverse_points(&mut store, 4), 4);
+    is(right, store[4], 1.0)
 }

@@ -11,8 +11,8 @@ use Rattle.curve2.specs.declared.Entry.{Entry}
 use Rattle.inscribed.specs.Store.{circlesOf, stored, badStore, badStoreCount}
 use Rattle.inscribed.specs.declared.Inscribed.{Inscribed}
 use Rattle.ends.specs.Ends.{lastPair, clipLine}
-use Rattle.lists.specs.Lists.{frontAndBack, tmax, averageSpacing}
-use Rattle.lists.specs.declared.FrontAndBack.{FrontAndBack}
+use Rattle.measures.specs.Lists.{frontAndBack, tmax, averageSpacing}
+use Rattle.measures.specs.declared.FrontAndBack.{FrontAndBack}
 use Rattle.lists.specs.declared.PlaceAnswer.{PlaceAnswer}
 
 -- 2 for a bad circle in use, as far as the store holds them; 4 for a count above what it holds

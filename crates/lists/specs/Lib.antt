@@ -1,3 +1,2 @@
 -- The list helpers of inscribed.rs, over the circles in use of a store.
-pub mod Lists
 pub mod Asked

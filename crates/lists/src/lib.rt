@@ -2,8 +2,8 @@
 use curve2::Entry;
 use errors::Refusal;
 use errors::ScalarAnswer;
-use inscribed::Inscribed;
 use line2::LineAnswer;
+use measures::FrontAndBackAnswer;
 ghost use mathlib.Core.Path.{_≡_};
 ghost use mathlib.Core.List.{map, reverse};
 ghost use Rattle.errors.specs.Refusals.{listedScalar};
@@ -11,22 +11,8 @@ ghost use Rattle.line2.specs.Listed.{listedLine};
 ghost use Rattle.curve2.specs.Entry.{listedEntry};
 ghost use Rattle.inscribed.specs.Circles.{reversedPoints};
 ghost use Rattle.turning.specs.Turned.{turned};
-ghost use Rattle.lists.specs.Lists.{listedEnds};
+ghost use Rattle.measures.specs.Lists.{listedEnds};
 ghost use Rattle.lists.specs.Asked.{storeEntry, endsAsked, tmaxAsked, spacingAsked, clipAsked, listedPlace, Changed};
-
-pub mod checked;
-
-// The first and the last circle of a list.
-pub struct FrontAndBack {
-    pub front: Inscribed,
-    pub back: Inscribed,
-}
-
-// Both ends, or why there are none.
-pub enum FrontAndBackAnswer {
-    Value(FrontAndBack),
-    Refused(Refusal),
-}
 
 // A place in a list, or why there is none.
 pub enum PlaceAnswer {
@@ -52,7 +38,7 @@ pub fn front_and_back(store: &[f64], count: usize) -> FrontAndBackAnswer
     ensures { λ r. ⌜ listedEnds r ≡ endsAsked (now (store .entry)) count ⌝ }
 {
     match check_store(store, count) {
-        Entry::Passed => checked::front_and_back(store, count),
+        Entry::Passed => measures::front_and_back(store, count),
         Entry::Refused(r) => FrontAndBackAnswer::Refused(r),
     }
 }
@@ -62,7 +48,7 @@ pub fn index_of_tmax(store: &[f64], count: usize) -> PlaceAnswer
     ensures { λ r. ⌜ listedPlace r ≡ tmaxAsked (now (store .entry)) count ⌝ }
 {
     match check_store(store, count) {
-        Entry::Passed => PlaceAnswer::Value(checked::index_of_tmax(store, count)),
+        Entry::Passed => PlaceAnswer::Value(measures::index_of_tmax(store, count)),
         Entry::Refused(r) => PlaceAnswer::Refused(r),
     }
 }
@@ -72,7 +58,7 @@ pub fn average_spacing(store: &[f64], count: usize) -> ScalarAnswer
     ensures { λ r. ⌜ listedScalar r ≡ spacingAsked (now (store .entry)) count ⌝ }
 {
     match check_store(store, count) {
-        Entry::Passed => checked::average_spacing(store, count),
+        Entry::Passed => measures::average_spacing(store, count),
         Entry::Refused(r) => ScalarAnswer::Refused(r),
     }
 }

@@ -27,32 +27,15 @@ fn word_at(told: &[u64], i: usize) -> u64 {
     0
 }
 
-// What is asked of the circles that an extraction left.
-fn ask_of_circles(
+// What is told of the circles of a store.
+fn ask_of_list(
     kind: u64,
-    section: &[f64],
+    store: &[f64],
     args: &[f64],
-    store: &mut [f64],
+    count: usize,
     out: &mut [f64],
     told: &mut [u64],
 ) {
-    let count = word_at(told, 1) as usize;
-    if kind == 8 {
-        compare::compare_fit_open_edge(section, args, count, 0, store, out, told);
-        return;
-    }
-    if kind == 9 {
-        compare::compare_fit_open_edge(section, args, count, 1, store, out, told);
-        return;
-    }
-    if kind == 10 {
-        compare::compare_orient_fwd_aft(args, 0, count, store, told);
-        return;
-    }
-    if kind == 11 {
-        compare::compare_orient_upper_lower(args, 1, count, store, told);
-        return;
-    }
     if kind == 12 {
         compare::compare_camber_curve(store, args, count, out, told);
         return;
@@ -64,6 +47,65 @@ fn ask_of_circles(
     compare::compare_average_spacing(store, count, out, told);
 }
 
+fn ask_orientation(kind: u64, args: &[f64], count: usize, store: &mut [f64], told: &mut [u64]) {
+    if kind == 10 {
+        compare::compare_orient_fwd_aft(args, 0, count, store, told);
+        return;
+    }
+    compare::compare_orient_upper_lower(args, 1, count, store, told);
+}
+
+// What is asked of the circles that an extraction left: the open edge at the back and at the front, and the rest.
+fn ask_of_circles(
+    kind: u64,
+    section: &[f64],
+    args: &[f64],
+    store: &mut [f64],
+    out: &mut [f64],
+    told: &mut [u64],
+) {
+    let count = word_at(told, 1) as usize;
+    if kind < 10 {
+        compare::compare_fit_open_edge(section, args, count, kind % 2, store, out, told);
+        return;
+    }
+    if kind < 12 {
+        ask_orientation(kind, args, count, store, told);
+        return;
+    }
+    ask_of_list(kind, store, args, count, out, told);
+}
+
+// A circle asked for directly.
+fn ask_circle(kind: u64, section: &[f64], args: &[f64], out: &mut [f64], told: &mut [u64]) {
+    if kind == 1 {
+        compare::compare_try_inscribed(section, args, out, told);
+        return;
+    }
+    if kind == 2 {
+        compare::compare_inscribed_from_crossing(section, args, out, told);
+        return;
+    }
+    compare::compare_inscribed_refined(section, args, out, told);
+}
+
+// A circle, a crossing or a place.
+fn ask_place(kind: u64, section: &[f64], args: &[f64], out: &mut [f64], told: &mut [u64]) {
+    if kind == 0 {
+        compare::compare_crossing_line(section, args, out, told);
+        return;
+    }
+    if kind == 4 {
+        compare::compare_closest(section, args, out, told);
+        return;
+    }
+    if kind == 5 {
+        compare::compare_at_length(section, args, out, told);
+        return;
+    }
+    ask_circle(kind, section, args, out, told);
+}
+
 // What is asked of the section.
 fn ask(
     kind: u64,
@@ -73,28 +115,8 @@ fn ask(
     out: &mut [f64],
     told: &mut [u64],
 ) {
-    if kind == 0 {
-        compare::compare_crossing_line(section, args, out, told);
-        return;
-    }
-    if kind == 1 {
-        compare::compare_try_inscribed(section, args, out, told);
-        return;
-    }
-    if kind == 2 {
-        compare::compare_inscribed_from_crossing(section, args, out, told);
-        return;
-    }
-    if kind == 3 {
-        compare::compare_inscribed_refined(section, args, out, told);
-        return;
-    }
-    if kind == 4 {
-        compare::compare_closest(section, args, out, told);
-        return;
-    }
-    if kind == 5 {
-        compare::compare_at_length(section, args, out, told);
+    if kind < 6 {
+        ask_place(kind, section, args, out, told);
         return;
     }
     if kind == 6 {
@@ -122,35 +144,23 @@ fn checksum_of(told: &[u64], out: &[f64], store: &[f64]) -> u64 {
     mixed_numbers(mixed_numbers(sum, out), store)
 }
 
-// The same of the whole profile, or of what is left of it without its first and its last point.
-fn ask_either(
-    open: bool,
-    kind: u64,
-    whole: &[f64],
-    args: &[f64],
-    store: &mut [f64],
-    out: &mut [f64],
-    told: &mut [u64],
-) {
-    if !open {
-        ask(kind, whole, args, store, out, told);
-        return;
-    }
-    if whole.len() < 40 {
-        return;
-    }
-    ask(kind, &whole[2..40], args, store, out, told);
-}
-
-// The checksum of the answer to one input.
+// The checksum of the answer to one input: the whole profile, or what is left of it without its first and its last point.
 fn checksum(kind: u64, seed: u64) -> u64 {
     let section = inputs::section(seed);
     let args = inputs::args(seed);
     let mut store = [0.0; 448];
     let mut out = [0.0; 130];
     let mut told = [0; 3];
-    let open = seed % 2 == 1;
-    ask_either(open, kind, &section, &args, &mut store, &mut out, &mut told);
+    let from = (seed % 2 * 2) as usize;
+    let to = 42 - from;
+    ask(
+        kind,
+        &section[from..to],
+        &args,
+        &mut store,
+        &mut out,
+        &mut told,
+    );
     checksum_of(&told, &out, &store)
 }
 

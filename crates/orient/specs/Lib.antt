@@ -1,3 +1,2 @@
 -- Orientation: what each case decides, and what the store is afterwards.
-pub mod Checks
 pub mod Orientation

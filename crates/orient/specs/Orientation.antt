@@ -15,7 +15,7 @@ use Rattle.sections.specs.declared.BoolAnswer.{BoolAnswer}
 use Rattle.inscribed.specs.Store.{circlesOf, stored, badStore, badStoreCount}
 use Rattle.inscribed.specs.declared.Inscribed.{Inscribed}
 use Rattle.geometry.specs.Camber.{badCenters}
-use Rattle.orient.specs.Checks.{dirFwd, tmaxFwd, dirUpper}
+use Rattle.checks.specs.Checks.{dirFwd, tmaxFwd, dirUpper}
 use Rattle.orient.specs.declared.OrientFwdAft.{OrientFwdAft}
 use Rattle.orient.specs.declared.OrientFwdAft.the-variants.{TmaxFwd, Airflow, Fwd}
 use Rattle.orient.specs.declared.OrientUpperLower.{OrientUpperLower}

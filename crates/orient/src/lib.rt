@@ -14,8 +14,6 @@ ghost use Rattle.inscribed.specs.Store.{circlesOf};
 ghost use Rattle.sections.specs.Asked.{listedBool};
 ghost use Rattle.orient.specs.Orientation.{finiteVector, orientEntry, badFwd, turnOf, fwdAsked, vectorOf, upperDir, upperAsked, Oriented};
 
-pub mod checks;
-
 // How the leading edge is told: by greatest radius, by the direction of the airflow, or by a direction that points forward.
 pub enum OrientFwdAft {
     TmaxFwd,

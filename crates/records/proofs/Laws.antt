@@ -8,7 +8,7 @@ use lib.ListN.{length, getD, drop}
 use lib.Seq.{drop-cons}
 use lib.Ieee.{Float, nan, inf, fin, binary64, div, ofBits, lt}
 use Rattle.inscribed.specs.declared.Inscribed.{Inscribed}
-use Rattle.lists.specs.Lists.{tmaxFrom, tmax}
+use Rattle.measures.specs.Lists.{tmaxFrom, tmax}
 
 -- what the first radius is compared with: no number is less
 abbrev pub first : Float

@@ -1,7 +1,7 @@
 // The thickest circle of a lent slice of circle records.
 use inscribed::Inscribed;
 ghost use mathlib.Core.Path.{_≡_};
-ghost use Rattle.lists.specs.Lists.{tmax};
+ghost use Rattle.measures.specs.Lists.{tmax};
 
 // The place of the thickest circle, the last of equal ones; 0 where there is none. The first radius is compared with a NaN, than which no number is less.
 pub fn index_of_tmax_of(circles: &[Inscribed]) -> usize

@@ -13,8 +13,8 @@ use Rattle.runs.proofs.LimitLaws.{Grows, part-grows, run-holds, spent-if, if-sp
 use Rattle.inscribed.specs.Store.{circlesOf, numbersOf, allNumbers, stored}
 use Rattle.inscribed.specs.declared.Inscribed.{Inscribed}
 use Rattle.inscribed.proofs.StoreLaws.{length-all, length-circles, numbers-of-circles}
-use Rattle.refine.specs.Machine.{State, circlesIn, End}
-use Rattle.refine.specs.Report.{Report, reported, refusedOnEntry}
+use Rattle.moves.specs.Machine.{State, circlesIn, End}
+use Rattle.moves.specs.Report.{Report, reported, refusedOnEntry}
 use Rattle.refine.specs.Law.{Settled, LimitLaw}
 use Rattle.refine.proofs.MachineLaws.{Part, Sound}
 

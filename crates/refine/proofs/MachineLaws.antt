@@ -15,9 +15,9 @@ use Rattle.errors.specs.Answer.{Answer, result, refusal}
 use Rattle.runs.specs.Run.{Move, ends, goes, pays}
 use Rattle.runs.proofs.RunLaws.{Falls}
 use Rattle.runs.proofs.LimitLaws.{Grows}
-use Rattle.halving.specs.Trial.{trial}
+use Rattle.trial.specs.Trial.{trial}
 use Rattle.inscribed.specs.declared.Inscribed.{Inscribed}
-use Rattle.refine.specs.Machine.{State, refining, advancing, over, circlesIn, End, lastOf, afterTrial, refineMove, waitingLeft, measure}
+use Rattle.moves.specs.Machine.{State, refining, advancing, over, circlesIn, End, lastOf, withRoom, afterRoom, afterTrial, refineMove, waitingLeft, measure}
 use Rattle.refine.specs.Refinement.{refineStep}
 use Rattle.refine.specs.Law.{Settled}
 
@@ -69,16 +69,16 @@ left-some : (ws : List Inscribed) (b : Inscribed) → waitingLeft (b ∷ ws) ≤
 left-some ws b = omega arith
 
 pub after-falls : (slots : ℕ) (cs : List Inscribed) (b : Inscribed) (ws : List Inscribed) (r : Answer (Option Inscribed)) → measure slots (afterTrial slots cs b ws r) < measure slots (refining cs (b ∷ ws))
-unfolding afterTrial measure
+unfolding afterTrial withRoom measure
 after-falls slots cs b ws (refusal n) = omega arith
 after-falls slots cs b ws (result (some d)) = go (leb 64 (suc (length ws))) (leb-false 64 (suc (length ws)))
   where
-    go : (x : Bool) → (x ≡ false → suc (length ws) < 64) → measure slots (cond x (over cs 16) (refining cs (d ∷ (b ∷ ws)))) < measure slots (refining cs (b ∷ ws))
+    go : (x : Bool) → (x ≡ false → suc (length ws) < 64) → measure slots (afterRoom cs b ws (cond x (refusal 16) (result (some d)))) < measure slots (refining cs (b ∷ ws))
     go true h = omega arith
     go false h = omega (arith, h refl)
 after-falls slots cs b ws (result none) = go (leb slots (length cs)) (leb-false slots (length cs))
   where
-    go : (x : Bool) → (x ≡ false → length cs < slots) → measure slots (cond x (over cs 15) (refining (cs ++ (b ∷ [])) ws)) < measure slots (refining cs (b ∷ ws))
+    go : (x : Bool) → (x ≡ false → length cs < slots) → measure slots (afterRoom cs b ws (cond x (refusal 15) (result none))) < measure slots (refining cs (b ∷ ws))
     go true h = omega arith
     go false h = omega (arith, h refl, length-append cs (b ∷ []), left-most ws)
 
@@ -116,16 +116,16 @@ pub part-chain : (s t v : State) → Part s t → Part t v → Part s v
 part-chain s t v p q = (p .0 ++ q .0, q .1 ∙ rw (p .1) (append-assoc (circlesIn s) (p .0) (q .0)))
 
 pub after-part : (slots : ℕ) (cs : List Inscribed) (b : Inscribed) (ws : List Inscribed) (r : Answer (Option Inscribed)) → Part (refining cs (b ∷ ws)) (afterTrial slots cs b ws r)
-unfolding afterTrial
+unfolding afterTrial withRoom
 after-part slots cs b ws (refusal n) = ([], no-more cs)
 after-part slots cs b ws (result (some d)) = go (leb 64 (suc (length ws)))
   where
-    go : (x : Bool) → Part (refining cs (b ∷ ws)) (cond x (over cs 16) (refining cs (d ∷ (b ∷ ws))))
+    go : (x : Bool) → Part (refining cs (b ∷ ws)) (afterRoom cs b ws (cond x (refusal 16) (result (some d))))
     go true = ([], no-more cs)
     go false = ([], no-more cs)
 after-part slots cs b ws (result none) = go (leb slots (length cs))
   where
-    go : (x : Bool) → Part (refining cs (b ∷ ws)) (cond x (over cs 15) (refining (cs ++ (b ∷ [])) ws))
+    go : (x : Bool) → Part (refining cs (b ∷ ws)) (afterRoom cs b ws (cond x (refusal 15) (result none)))
     go true = ([], no-more cs)
     go false = (b ∷ [], refl)
 
@@ -182,16 +182,16 @@ pub record Sound (ns : List Float) (tol : Float) (k : ℕ) (s : State) : Type 0 
 module _ (ns : List Float) (tol : Float) (k slots : ℕ) where
   after-sound : (c : Inscribed) (cs : List Inscribed) (b : Inscribed) (ws : List Inscribed) (r : Answer (Option Inscribed)) → trial ns tol (lastOf c cs) b ≡ r → Sound ns tol k (refining (c ∷ cs) (b ∷ ws))
       → Sound ns tol k (afterTrial slots (c ∷ cs) b ws r)
-  unfolding afterTrial
+  unfolding afterTrial withRoom
   after-sound c cs b ws (refusal n) e h = record { held = h .held; settled = h .settled }
   after-sound c cs b ws (result (some d)) e h = go (leb 64 (suc (length ws)))
     where
-      go : (x : Bool) → Sound ns tol k (cond x (over (c ∷ cs) 16) (refining (c ∷ cs) (d ∷ (b ∷ ws))))
+      go : (x : Bool) → Sound ns tol k (afterRoom (c ∷ cs) b ws (cond x (refusal 16) (result (some d))))
       go true = record { held = h .held; settled = h .settled }
       go false = record { held = h .held; settled = h .settled }
   after-sound c cs b ws (result none) e h = go (leb slots (suc (length cs)))
     where
-      go : (x : Bool) → Sound ns tol k (cond x (over (c ∷ cs) 15) (refining ((c ∷ cs) ++ (b ∷ [])) ws))
+      go : (x : Bool) → Sound ns tol k (afterRoom (c ∷ cs) b ws (cond x (refusal 15) (result none)))
       go true = record { held = h .held; settled = h .settled }
       go false = record { held = omega (arith, h .held, length-append (c ∷ cs) (b ∷ [])); settled = settled-accepted ns tol (k - 1) c cs b (omega (arith, h .held)) (h .settled) e }
 
@@ -250,17 +250,17 @@ module _ (ns : List Float) (tol : Float) (k slots : ℕ) (o : Inscribed) where
 
   after-offered : (c : Inscribed) (cs : List Inscribed) (b : Inscribed) (ws : List Inscribed) (r : Answer (Option Inscribed)) → k ≤ suc (length cs) → Offered k o (refining (c ∷ cs) (b ∷ ws))
       → Offered k o (afterTrial slots (c ∷ cs) b ws r)
-  unfolding afterTrial
+  unfolding afterTrial withRoom
   after-offered c cs b ws (refusal n) h e = tt
   after-offered c cs b ws (result (some d)) h e = go (leb 64 (suc (length ws))) e
     where
-      go : (x : Bool) → Offered k o (refining (c ∷ cs) (b ∷ ws)) → Offered k o (cond x (over (c ∷ cs) 16) (refining (c ∷ cs) (d ∷ (b ∷ ws))))
+      go : (x : Bool) → Offered k o (refining (c ∷ cs) (b ∷ ws)) → Offered k o (afterRoom (c ∷ cs) b ws (cond x (refusal 16) (result (some d))))
       go true q = tt
       go false (inl q) = inl (d ∷ q .0, ap (λ (x : List Inscribed). d ∷ x) (q .1))
       go false (inr q) = nothing-ends b o ws [] (q .0)
   after-offered c cs b ws (result none) h e = go (leb slots (suc (length cs)))
     where
-      go : (x : Bool) → Offered k o (cond x (over (c ∷ cs) 15) (refining ((c ∷ cs) ++ (b ∷ [])) ws))
+      go : (x : Bool) → Offered k o (afterRoom (c ∷ cs) b ws (cond x (refusal 15) (result none)))
       go true = tt
       go false = accepted-offered (c ∷ cs) b ws h e
 
@@ -298,16 +298,16 @@ module _ (ns : List Float) (tol : Float) (slots : ℕ) where
   Fits s = length (circlesIn s) ≤ slots
 
   after-fits : (cs : List Inscribed) (b : Inscribed) (ws : List Inscribed) (r : Answer (Option Inscribed)) → length cs ≤ slots → Fits (afterTrial slots cs b ws r)
-  unfolding afterTrial
+  unfolding afterTrial withRoom
   after-fits cs b ws (refusal n) h = h
   after-fits cs b ws (result (some d)) h = go (leb 64 (suc (length ws)))
     where
-      go : (x : Bool) → Fits (cond x (over cs 16) (refining cs (d ∷ (b ∷ ws))))
+      go : (x : Bool) → Fits (afterRoom cs b ws (cond x (refusal 16) (result (some d))))
       go true = h
       go false = h
   after-fits cs b ws (result none) h = go (leb slots (length cs)) (leb-false slots (length cs))
     where
-      go : (x : Bool) → (x ≡ false → length cs < slots) → Fits (cond x (over cs 15) (refining (cs ++ (b ∷ [])) ws))
+      go : (x : Bool) → (x ≡ false → length cs < slots) → Fits (afterRoom cs b ws (cond x (refusal 15) (result none)))
       go true k = h
       go false k = omega (arith, k refl, length-append cs (b ∷ []))
 

@@ -1,11 +1,13 @@
 -- The loop of `refine`: each way through its body keeps that what is left of the run gives the whole. Assumes nothing.
 use mathlib.Core.Path.{_≡_, refl, sym, ap, _∙_}
+use mathlib.Core.Bool.{Bool, true, false, cond}
 use mathlib.Core.List.{List, [], _∷_, _++_}
 use mathlib.Core.Option.{Option, some, none}
 use Prim.Native.Nat.{ℕ, zero, suc, _+_, _-_, _*_, _≤_, _<_}
 use native.Mathlib.Numerals.{add-one}
 use native.Mathlib.Omega.{arith}
-use borrow.Author.Tests.{le-leb, lt-leb}
+use borrow.Author.Tests.{le-leb, lt-leb, leb-false}
+use lib.Dec.{leb}
 use lib.ListN.{length, getD, set, length-append}
 use lib.Seq.{getD-set-same, getD-set-other}
 use lib.Ieee.{Float, nan}
@@ -16,9 +18,9 @@ use Rattle.inscribed.specs.Store.{circleAt, circlesOf, stored}
 use Rattle.inscribed.specs.Parts.{withCircle}
 use Rattle.inscribed.specs.declared.Inscribed.{Inscribed}
 use Rattle.inscribed.proofs.StoreLaws.{stored-push, stored-again, circle-of-stored, length-circles}
-use Rattle.halving.specs.Trial.{trial}
-use Rattle.refine.specs.Machine.{State, refining, over, circlesIn, End, finished, lastOf, afterTrial, refineMove, measure}
-use Rattle.refine.specs.Report.{Report, reported}
+use Rattle.trial.specs.Trial.{trial}
+use Rattle.moves.specs.Machine.{State, refining, over, circlesIn, End, finished, lastOf, withRoom, afterRoom, afterTrial, refineMove, measure}
+use Rattle.moves.specs.Report.{Report, reported}
 use Rattle.refine.specs.Refinement.{refineStep, refineRun}
 use Rattle.refine.proofs.MachineLaws.{refine-falls}
 
@@ -149,43 +151,81 @@ module _ (ns : List Float) (tol : Float) (slots limit : ℕ) (old : List Float) 
           reported-as store n (l .cs) spent (refining (l .cs) (b ∷ ws)) u (l .long) (l .holds) refl
           (sym (whole-spent step (measure slots) (refine-falls ns tol slots) (under limit) (refining (l .cs) (b ∷ ws)) u (afterTrial slots (l .cs) b ws result-of) paying (le-leb limit u h)) ∙ l .left)
 
-      module _ (more : u < limit) where
-        after : (r : Answer (Option Inscribed)) → asked ≡ r → whole step (measure slots) (under limit) (afterTrial slots (l .cs) b ws r) (suc u) ≡ target
-        after r e =
-            rw (← (sym (ap (λ (x : Inscribed). trial ns tol x b) loop-last) ∙ e)) (sym (whole-pays step (measure slots) (refine-falls ns tol slots) (under limit) (refining (l .cs) (b ∷ ws)) u (afterTrial slots (l .cs) b ws result-of) paying (lt-leb limit u more)) ∙ l .left)
+      module _ (more : u < limit) (w : ℕ) (waits : suc (length ws) ≡ w) where
+        paid : whole step (measure slots) (under limit) (afterTrial slots (l .cs) b ws asked) (suc u) ≡ target
+        paid =
+            rw (ap (λ (x : Inscribed). trial ns tol x b) loop-last)
+            (sym (whole-pays step (measure slots) (refine-falls ns tol slots) (under limit) (refining (l .cs) (b ∷ ws)) u (afterTrial slots (l .cs) b ws result-of) paying (lt-leb limit u more)) ∙ l .left)
 
-        refused : (k : ℕ) → whole step (measure slots) (under limit) (over (l .cs) k) (suc u) ≡ target → report (ended (refusal k)) n (u + 1) store ≡ reported old target
+        after : (r : Answer (Option Inscribed)) → withRoom slots n w asked ≡ r → whole step (measure slots) (under limit) (afterRoom (l .cs) b ws r) (suc u) ≡ target
+        unfolding afterTrial
+        after r e = rw e at (rw (l .long, waits) at paid)
+
+        pub loop-refused : (k : ℕ) → withRoom slots n w asked ≡ refusal k → report (ended (refusal k)) n (u + 1) store ≡ reported old target
         unfolding refineStep
-        refused k p =
+        loop-refused k e =
             rw (add-one u)
             (reported-as store n (l .cs) (ended (refusal k)) (over (l .cs) k) (suc u) (l .long) (l .holds) refl
-            (sym (whole-ends step (measure slots) (refine-falls ns tol slots) (under limit) (over (l .cs) k) (suc u) (refusal k) refl) ∙ p))
+            (sym (whole-ends step (measure slots) (refine-falls ns tol slots) (under limit) (over (l .cs) k) (suc u) (refusal k) refl) ∙ after (refusal k) e))
 
-        pub loop-refused : (k : ℕ) → asked ≡ refusal k → report (ended (refusal k)) n (u + 1) store ≡ reported old target
-        loop-refused k e = refused k (unfold afterTrial in after (refusal k) e)
+        pub loop-added : (d : Inscribed) → withRoom slots n w asked ≡ result (some d) → Left ns tol slots limit old target store n (d ∷ (b ∷ ws)) (u + 1)
+        loop-added d e = record { cs = l .cs; long = l .long; holds = l .holds; left = rw (add-one u) (after (result (some d)) e) }
 
-        pub loop-full : (d : Inscribed) → asked ≡ result (some d) → 64 ≤ suc (length ws) → report (ended (refusal 16)) n (u + 1) store ≡ reported old target
-        unfolding afterTrial
-        loop-full d e h = refused 16 (rw (le-leb 64 (suc (length ws)) h) at (after (result (some d)) e))
-
-        pub loop-added : (d : Inscribed) → asked ≡ result (some d) → suc (length ws) < 64 → Left ns tol slots limit old target store n (d ∷ (b ∷ ws)) (u + 1)
-        unfolding afterTrial
-        loop-added d e h = record { cs = l .cs; long = l .long; holds = l .holds; left = rw (add-one u) (rw (lt-leb 64 (suc (length ws)) h) at (after (result (some d)) e)) }
-
-        pub loop-no-room : asked ≡ result none → slots ≤ n → report (ended (refusal 15)) n (u + 1) store ≡ reported old target
-        unfolding afterTrial
-        loop-no-room e h = refused 15 (rw (l .long, le-leb slots n h) at (after (result none) e))
-
-        pub loop-accepted : asked ≡ result none → n < slots → Left ns tol slots limit old target (withCircle store n b) (n + 1) ws (u + 1)
-        unfolding afterTrial
-        loop-accepted e h = record {
+        pub loop-accepted : withRoom slots n w asked ≡ result none → Left ns tol slots limit old target (withCircle store n b) (n + 1) ws (u + 1)
+        loop-accepted e = record {
           cs = l .cs ++ (b ∷ []);
           long = length-append (l .cs) (b ∷ []) ∙ ap (λ (x : ℕ). x + 1) (l .long);
           holds = rw (l .holds, ← (l .long)) (stored-push (l .cs) old b);
-          left = rw (add-one u) (rw (l .long, lt-leb slots n h) at (after (result none) e));
+          left = rw (add-one u) (after (result none) e);
         }
 
 -- the loop begins with the old circles
 pub loop-start : (ns : List Float) (tol : Float) (slots limit : ℕ) (old : List Float) (n : ℕ) (ws : List Inscribed) (u : ℕ) → n ≤ slots → slots * 7 ≤ length old
     → Left ns tol slots limit old (refineRun ns tol slots (under limit) (circlesOf old n) ws u) old n ws u
 loop-start ns tol slots limit old n ws u h k = record { cs = circlesOf old n; long = length-circles old 0 n; holds = sym (stored-again old n (omega arith)); left = refl }
+
+-- an empty store
+module _ (ns : List Float) (tol : Float) (slots limit : ℕ) (old : List Float) (b : Inscribed) (u : ℕ) (room : slots * 7 ≤ length old) where
+  begun : Left ns tol slots limit old (refineRun ns tol slots (under limit) (circlesOf old 0) (b ∷ []) u) old 0 (b ∷ []) u
+  begun = loop-start ns tol slots limit old 0 (b ∷ []) u (omega arith) room
+
+  pub empty-refused : slots ≡ 0 → report (ended (refusal 15)) 0 u old ≡ reported old (refineRun ns tol slots (under limit) (circlesOf old 0) (b ∷ []) u)
+  empty-refused z = loop-no-slot ns tol slots limit old _ old b [] u begun z
+
+  pub empty-accepted : (slots ≡ 0 → ⊥) → report (ended finished) 1 u (withCircle old 0 b) ≡ reported old (refineRun ns tol slots (under limit) (circlesOf old 0) (b ∷ []) u)
+  empty-accepted z = loop-finished ns tol slots limit old _ (withCircle old 0 b) 1 u (loop-first ns tol slots limit old _ old b [] u begun z)
+
+-- ---- what room there is where a trial ends neither in 16 nor in 15
+
+unfoldable tagOf : Answer (Option Inscribed) → ℕ
+tagOf (refusal k) = 0
+tagOf (result none) = 1
+tagOf (result (some d)) = 2
+
+pub room-to-wait : (slots n w : ℕ) (r : Answer (Option Inscribed)) (d : Inscribed) → withRoom slots n w r ≡ result (some d) → w < 64
+unfolding tagOf withRoom
+room-to-wait slots n w (refusal k) d e = let z : _≡_ {A = ℕ} 0 2 = ap tagOf e in absurd (omega arith)
+room-to-wait slots n w (result (some x)) d e = go (leb 64 w) (leb-false 64 w) e
+  where
+    go : (y : Bool) → (y ≡ false → w < 64) → _≡_ {A = Answer (Option Inscribed)} (cond y (refusal 16) (result (some x))) (result (some d)) → w < 64
+    go true h p = let z : _≡_ {A = ℕ} 0 2 = ap tagOf p in absurd (omega arith)
+    go false h p = h refl
+room-to-wait slots n w (result none) d e = go (leb slots n) e
+  where
+    go : (y : Bool) → _≡_ {A = Answer (Option Inscribed)} (cond y (refusal 15) (result none)) (result (some d)) → w < 64
+    go true p = let z : _≡_ {A = ℕ} 0 2 = ap tagOf p in absurd (omega arith)
+    go false p = let z : _≡_ {A = ℕ} 1 2 = ap tagOf p in absurd (omega arith)
+
+pub room-to-take : (slots n w : ℕ) (r : Answer (Option Inscribed)) → withRoom slots n w r ≡ result none → n < slots
+unfolding tagOf withRoom
+room-to-take slots n w (refusal k) e = let z : _≡_ {A = ℕ} 0 1 = ap tagOf e in absurd (omega arith)
+room-to-take slots n w (result (some x)) e = go (leb 64 w) e
+  where
+    go : (y : Bool) → _≡_ {A = Answer (Option Inscribed)} (cond y (refusal 16) (result (some x))) (result none) → n < slots
+    go true p = let z : _≡_ {A = ℕ} 0 1 = ap tagOf p in absurd (omega arith)
+    go false p = let z : _≡_ {A = ℕ} 2 1 = ap tagOf p in absurd (omega arith)
+room-to-take slots n w (result none) e = go (leb slots n) (leb-false slots n) e
+  where
+    go : (y : Bool) → (y ≡ false → n < slots) → _≡_ {A = Answer (Option Inscribed)} (cond y (refusal 15) (result none)) (result none) → n < slots
+    go true h p = let z : _≡_ {A = ℕ} 0 1 = ap tagOf p in absurd (omega arith)
+    go false h p = h refl

@@ -18,8 +18,8 @@ use Rattle.runs.proofs.LimitLaws.{run-holds, ended-step}
 use Rattle.inscribed.specs.Store.{slots, circlesOf}
 use Rattle.inscribed.specs.declared.Inscribed.{Inscribed}
 use Rattle.inscribed.proofs.StoreLaws.{length-circles}
-use Rattle.refine.specs.Machine.{State, refining, advancing, over, circlesIn, End, finished, refineMove, measure}
-use Rattle.refine.specs.Report.{reported}
+use Rattle.moves.specs.Machine.{State, refining, advancing, over, circlesIn, End, finished, refineMove, measure}
+use Rattle.moves.specs.Report.{reported}
 use Rattle.refine.specs.Refinement.{refineStep, Offer, refineEntry, offeredRun, afterEntry, refinement, refineOf, plainRefinement, acceptedAfter, accepted}
 use Rattle.refine.specs.Law.{LimitLaw, OfferedLast}
 use Rattle.refine.proofs.MachineLaws.{refine-grows, Sound, refine-sound-goes, refine-sound-pays, Kept, refine-offered-goes, refine-offered-pays}

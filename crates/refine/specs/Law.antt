@@ -9,10 +9,10 @@ use lib.Ieee.{Float}
 use Rattle.errors.specs.Answer.{result}
 use Rattle.runs.specs.Run.{ended, spent}
 use Rattle.inscribed.specs.Store.{width, allNumbers}
-use Rattle.halving.specs.Trial.{trial}
+use Rattle.trial.specs.Trial.{trial}
 use Rattle.inscribed.specs.declared.Inscribed.{Inscribed}
-use Rattle.refine.specs.Machine.{finished}
-use Rattle.refine.specs.Report.{Report}
+use Rattle.moves.specs.Machine.{finished}
+use Rattle.moves.specs.Report.{Report}
 
 -- "A pair would be refined again unless its trial, later against earlier, adds nothing." No neighbouring pair would.
 abbrev pub Settled : List Float → Float → List Inscribed → Type 0

@@ -1,27 +1,16 @@
 -- `refine_and_push`: "demand 3's plain run". Assumes nothing.
-use mathlib.Core.Bool.{Bool, not, _&&_, _||_}
+use mathlib.Core.Bool.{Bool, _||_}
 use mathlib.Core.List.{List, [], _∷_}
 use Prim.Native.Nat.{ℕ}
 use lib.ListN.{drop}
-use lib.Ieee.{Float, le, ofBits, binary64}
+use lib.Ieee.{Float}
 use Rattle.errors.specs.Answer.{Answer, result, refusal}
-use Rattle.curve2.specs.Entry.{sectionEntry}
+use Rattle.curve2.specs.Entry.{badGeneral, sectionEntry}
 use Rattle.runs.specs.Run.{Move, ends, Out, under, never, whole}
 use Rattle.inscribed.specs.Store.{slots, circlesOf, badCircle, badStore, badStoreCount}
 use Rattle.inscribed.specs.declared.Inscribed.{Inscribed}
-use Rattle.refine.specs.Machine.{State, refining, advancing, over, circlesIn, End, finished, refineMove, measure}
-use Rattle.refine.specs.Report.{Report, reported, refusedOnEntry}
-
--- 1e-6 and 1,000
-abbrev pub leastTol : Float
-leastTol = ofBits binary64 0x3eb0_c6f7_a0b5_ed8d
-
-abbrev pub mostTol : Float
-mostTol = ofBits binary64 0x408f_4000_0000_0000
-
--- 3: "general tolerance outside 1e-6 to 1,000, ends allowed, NaN outside"
-abbrev pub badGeneral : Float → Bool
-badGeneral tol = not (le leastTol tol && le tol mostTol)
+use Rattle.moves.specs.Machine.{State, refining, advancing, over, circlesIn, End, finished, refineMove, measure}
+use Rattle.moves.specs.Report.{Report, reported, refusedOnEntry}
 
 -- "None waits: finished."
 unfoldable pub refineStep : List Float → Float → ℕ → State → Move State End

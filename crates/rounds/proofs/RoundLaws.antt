@@ -13,14 +13,14 @@ use Rattle.runs.specs.Run.{Ending, ended, spent, unfinished, Out, under}
 use Rattle.inscribed.specs.Store.{circlesOf, stored}
 use Rattle.inscribed.proofs.StoreLaws.{length-circles, stored-again, stored-longer, circles-of-stored}
 use Rattle.inscribed.specs.declared.Inscribed.{Inscribed}
-use Rattle.refine.specs.Machine.{State, circlesIn, End}
-use Rattle.refine.specs.Report.{Report, reported, listedEnd, listedRun}
+use Rattle.moves.specs.Machine.{State, circlesIn, End}
+use Rattle.moves.specs.Report.{Report, reported, listedEnd, listedRun}
 use Rattle.refine.specs.Refinement.{refineRun}
-use Rattle.refine.specs.declared.Run.{Run}
+use Rattle.moves.specs.declared.Run.{Run}
 use Rattle.refine.proofs.RefinedLaws.{refined-fits, refined-units, refined-part}
 use Rattle.ends.specs.Ends.{lastPair}
 use Rattle.ends.specs.declared.Pair.{Pair}
-use Rattle.gap.specs.Gap.{probed}
+use Rattle.probe.specs.Probe.{probed}
 use Rattle.gap.specs.declared.Gap.{Gap}
 use Rattle.rounds.specs.declared.Moved.{Moved}
 use Rattle.rounds.specs.declared.Reached.{Reached}

@@ -9,12 +9,13 @@ use Rattle.points.specs.Points.{distOf}
 use Rattle.points.specs.declared.Point2.{Point2}
 use Rattle.runs.specs.Run.{Ending, ended, spent, unfinished, Out}
 use Rattle.inscribed.specs.declared.Inscribed.{Inscribed}
-use Rattle.refine.specs.Machine.{State, circlesIn, End}
+use Rattle.moves.specs.Machine.{State, circlesIn, End}
 use Rattle.refine.specs.Refinement.{refineRun}
 use Rattle.ends.specs.Ends.{lastPair}
 use Rattle.gap.specs.declared.Gap.{Gap}
 use Rattle.rounds.specs.declared.Moved.{Moved}
-use Rattle.gap.specs.Gap.{capIntersection, probed}
+use Rattle.gap.specs.Gap.{capIntersection}
+use Rattle.probe.specs.Probe.{probed}
 
 -- how a fit ends by itself: with the edge point, or refused
 abbrev pub FitEnd : Type 0

@@ -2,18 +2,18 @@
 use errors::Refusal;
 use errors::ScalarAnswer;
 use gap::Gap;
-use halving::trial::TriedAnswer;
+use moves::Run;
+use moves::RunEnd;
 use points::Point2;
 use points::PointAnswer;
-use refine::Run;
-use refine::RunEnd;
+use trial::TriedAnswer;
 ghost use mathlib.Core.Path.{_≡_};
 ghost use Prim.Native.Nat.{_*_, _≤_};
 ghost use lib.ListN.{length};
 ghost use Rattle.curve2.specs.Entry.{HasPoints};
 ghost use Rattle.runs.specs.Run.{under};
 ghost use Rattle.inscribed.specs.Store.{circlesOf};
-ghost use Rattle.refine.specs.Report.{listedEnd};
+ghost use Rattle.moves.specs.Report.{listedEnd};
 ghost use Rattle.rounds.specs.Rounds.{movedPoint, afterRefined, round, rounds, firstProgress};
 ghost use Rattle.rounds.specs.Reached.{listedMoved, edgeEndNumber, roundIn, Rounded, Fits};
 
@@ -152,7 +152,7 @@ fn round(
     ensures { λ r. ⌜ Rounded (round (now (section .entry)) tol slots (under limit) gap point (circlesOf (now (store .entry)) count) units) (now (store .entry)) (now (store .exit)) r ⌝ }
 {
     let end = ends::last_pair(store, count);
-    match gap::probe(section, tol, gap, end) {
+    match probe::probe(section, tol, gap, end) {
         TriedAnswer::Value(c) => {
             let ran = refine::refine(section, tol, store, slots, count, c, limit, units);
             after_refined(store, gap, point, ran)

@@ -2,7 +2,7 @@
 use crate::stores;
 use inscribed::Inscribed;
 use line2::Line2;
-use refine::Run;
+use moves::Run;
 
 const T: f64 = 0.001;
 
@@ -20,7 +20,7 @@ fn ends_by_limit(run: Run, plain: Run, limit: u32) -> bool {
         return stores::is_run(run, 14, run.count, limit);
     }
     let end = plain.end;
-    stores::is_run(run, refine::end_number(end), plain.count, plain.units)
+    stores::is_run(run, moves::end_number(end), plain.count, plain.units)
 }
 
 // Whether a run under a limit has the start of the plain run's circles, and nothing behind them.
@@ -62,7 +62,7 @@ fn circle_at(x: f64) -> Inscribed {
 fn refine_into(store: &mut [f64], limit: u32) -> Run {
     let s = stores::profile();
     march_into(store, 3.5, 0);
-    refine::refine_and_push(&s, T, G, store, 1, circle_at(7.5), limit)
+    circles::refinement::refine_and_push(&s, T, G, store, 1, circle_at(7.5), limit)
 }
 
 // The runs that are made under every limit.
@@ -114,7 +114,7 @@ fn all_keep(kind: Kind, plain: Run, full: &[f64], top: u32) -> bool {
 // Whether the plain run ends so, and every limit up to two above its units keeps to it.
 fn limits_keep(kind: Kind, plain: Run, full: &[f64], number: u32, count: usize) -> bool {
     let end = plain.end;
-    if refine::end_number(end) != number {
+    if moves::end_number(end) != number {
         return false;
     }
     if plain.count != count {
@@ -227,7 +227,7 @@ fn circle(r: f64, p1y: f64) -> Inscribed {
 fn refinement_refusal(tol: f64, g: f64, count: usize, c: Inscribed, number: u32) -> bool {
     let s = stores::profile();
     let mut store = [12345.0; 20];
-    let run = refine::refine_and_push(&s, tol, g, &mut store, count, c, NO_LIMIT);
+    let run = circles::refinement::refine_and_push(&s, tol, g, &mut store, count, c, NO_LIMIT);
     if !stores::is_run(run, number, count, 0) {
         return false;
     }
@@ -237,7 +237,7 @@ fn refinement_refusal(tol: f64, g: f64, count: usize, c: Inscribed, number: u32)
 fn refinement_on_short_section() -> bool {
     let s = [0.0, 0.0, 1.0];
     let mut store = [12345.0; 14];
-    let run = refine::refine_and_push(&s, T, G, &mut store, 1, circle(0.5, 0.5), 9);
+    let run = circles::refinement::refine_and_push(&s, T, G, &mut store, 1, circle(0.5, 0.5), 9);
     if !stores::is_run(run, 1, 1, 0) {
         return false;
     }

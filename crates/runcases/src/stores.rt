@@ -1,8 +1,8 @@
 // What every run case needs: a profile, a line, and what is told of a run and of its store.
 use line2::Line2;
+use moves::Run;
 use points::Point2;
 use points::Vector2;
-use refine::Run;
 
 // What stands in a store's numbers before a run.
 const MARK: f64 = 12345.0;
@@ -64,7 +64,7 @@ pub fn upright(x: f64) -> Line2 {
 
 pub fn is_run(run: Run, number: u32, count: usize, units: u32) -> bool {
     let end = run.end;
-    if refine::end_number(end) != number {
+    if moves::end_number(end) != number {
         return false;
     }
     if run.count != count {

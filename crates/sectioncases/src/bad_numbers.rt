@@ -21,8 +21,8 @@ enum Asked {
 
 fn cleaned_number(s: &[f64], tol: f64) -> u32 {
     let mut out = [7.0; 12];
-    let number = crate::curve_number(cleaning::from_points(s, tol, true, &mut out));
-    if !crate::filled_from(&out, 0, 7.0) {
+    let number = cleaningcases::curve_number(cleaning::from_points(s, tol, true, &mut out));
+    if !cleaningcases::filled_from(&out, 0, 7.0) {
         return 100;
     }
     number
@@ -30,8 +30,8 @@ fn cleaned_number(s: &[f64], tol: f64) -> u32 {
 
 fn reversed_number(s: &[f64], tol: f64) -> u32 {
     let mut out = [7.0; 12];
-    let number = crate::curve_number(cleaning::reversed(s, tol, &mut out));
-    if !crate::filled_from(&out, 0, 7.0) {
+    let number = cleaningcases::curve_number(cleaning::reversed(s, tol, &mut out));
+    if !cleaningcases::filled_from(&out, 0, 7.0) {
         return 100;
     }
     number
@@ -40,7 +40,7 @@ fn reversed_number(s: &[f64], tol: f64) -> u32 {
 // The number of an answer; x is the first of the other numbers handed in, and l has all four.
 fn number_of(kind: Asked, s: &[f64], tol: f64, x: f64, l: Line2) -> u32 {
     match kind {
-        Asked::Closed => crate::bool_number(sections::is_closed(s, tol)),
+        Asked::Closed => crate::closed_number(sections::is_closed(s, tol)),
         Asked::Length => crate::scalar_number(sections::length(s, tol)),
         Asked::Front => crate::station_number(sections::at_front(s, tol)),
         Asked::Back => crate::station_number(sections::at_back(s, tol)),
@@ -94,7 +94,7 @@ fn all_are_2(kind: Asked, places: usize, bad: f64) -> bool {
 }
 
 fn refused(kind: Asked, places: usize, bad: f64) -> bool {
-    let r = crate::rectangle();
+    let r = cleaningcases::rectangle();
     let l = crate::line(4.0, 1.0, 0.0, 1.0);
     if !all_are_2(kind, places, bad) {
         return false;
@@ -102,53 +102,36 @@ fn refused(kind: Asked, places: usize, bad: f64) -> bool {
     number_of(kind, &r, bad, 4.0, l) == 3
 }
 
-// Whether each of the first places refuses each of the three, and so does the tolerance.
-fn each_refused(kind: Asked, places: usize) -> bool {
-    if !refused(kind, places, crate::nan()) {
+// Right so far, and each of the first places refuses each of the three, and so does the tolerance.
+fn each_refused(right: bool, kind: Asked, places: usize) -> bool {
+    if !refused(kind, places, cleaningcases::nan()) {
         return false;
     }
-    if !refused(kind, places, crate::infinity()) {
+    if !refused(kind, places, cleaningcases::infinity()) {
         return false;
     }
-    refused(kind, places, -crate::infinity())
+    if !refused(kind, places, -cleaningcases::infinity()) {
+        return false;
+    }
+    right
 }
 
 // A section alone.
 pub fn with_a_section() -> bool {
-    if !each_refused(Asked::Closed, 10) {
-        return false;
-    }
-    if !each_refused(Asked::Length, 10) {
-        return false;
-    }
-    if !each_refused(Asked::Front, 10) {
-        return false;
-    }
-    if !each_refused(Asked::Back, 10) {
-        return false;
-    }
-    if !each_refused(Asked::Vertex, 10) {
-        return false;
-    }
-    if !each_refused(Asked::Cleaned, 10) {
-        return false;
-    }
-    each_refused(Asked::Reversed, 10)
+    let mut right = each_refused(true, Asked::Closed, 10);
+    right = each_refused(right, Asked::Length, 10);
+    right = each_refused(right, Asked::Front, 10);
+    right = each_refused(right, Asked::Back, 10);
+    right = each_refused(right, Asked::Vertex, 10);
+    right = each_refused(right, Asked::Cleaned, 10);
+    each_refused(right, Asked::Reversed, 10)
 }
 
 // A section with a length, a fraction, a point or a line.
 pub fn with_more() -> bool {
-    if !each_refused(Asked::AtLength, 11) {
-        return false;
-    }
-    if !each_refused(Asked::Along, 11) {
-        return false;
-    }
-    if !each_refused(Asked::Closest, 12) {
-        return false;
-    }
-    if !each_refused(Asked::Crossing, 14) {
-        return false;
-    }
-    each_refused(Asked::Joined, 14)
+    let mut right = each_refused(true, Asked::AtLength, 11);
+    right = each_refused(right, Asked::Along, 11);
+    right = each_refused(right, Asked::Closest, 12);
+    right = each_refused(right, Asked::Crossing, 14);
+    each_refused(right, Asked::Joined, 14)
 }

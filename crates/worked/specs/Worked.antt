@@ -32,21 +32,24 @@ use Rattle.inscribed.specs.Circles.{camberPoint}
 use Rattle.inscribed.specs.Store.{numbersOf, circleFrom, circlesFrom, allNumbers, stored, badCircle, anyBad}
 use Rattle.inscribed.specs.declared.Inscribed.{Inscribed}
 use Rattle.points.specs.Points.{midPointOf}
-use Rattle.line2.specs.Lines.{lineNormalized, rayNormalized, rayProjection, atDistance, shiftedRay, halfwayRay}
-use Rattle.halving.specs.Trial.{circleOn, tryInscribed, judged, trial}
+use Rattle.line2.specs.Lines.{lineNormalized}
+use Rattle.surface2.specs.Rays.{rayNormalized, rayProjection, atDistance, shiftedRay, halfwayRay}
+use Rattle.trial.specs.Trial.{circleOn, tryInscribed, judged, trial}
 use Rattle.runs.specs.Run.{Ending, ended, spent, next, run, whole}
-use Rattle.refine.specs.Machine.{lastOf as lastCircle, afterTrial, refineMove, measure}
+use Rattle.moves.specs.Machine.{lastOf as lastCircle, withRoom, afterTrial, refineMove, measure}
 use Rattle.refine.specs.Refinement.{refineStep}
-use Rattle.lists.specs.Lists.{lastCircle as lastInList, frontAndBack, tmaxFrom, tmax}
+use Rattle.measures.specs.Lists.{lastCircle as lastInList, frontAndBack, tmaxFrom, tmax}
 use Rattle.lists.specs.Asked.{storeEntry, tmaxAsked}
-use Rattle.orient.specs.Checks.{centerDot, lessForward, dirFwd, voteOf, votesFrom, dirUpper}
+use Rattle.checks.specs.Checks.{centerDot, lessForward, dirFwd, voteOf, votesFrom, dirUpper}
 use Rattle.orient.specs.Orientation.{orientEntry, fwdAsked, upperAsked}
 use Rattle.orient.specs.declared.OrientFwdAft.the-variants.{Airflow, Fwd}
 use Rattle.orient.specs.declared.OrientUpperLower.the-variants.{Upper, Lower}
 use Rattle.ends.specs.Ends.{lastPair, middleLine, facedLine, clipLine, endCamberRay}
-use Rattle.gap.specs.Gap.{gapOf, capPoint, capIntersection, aheadOf, turnedTo, acrossRay, probeLine, probed}
+use Rattle.gap.specs.Gap.{gapOf, capPoint, capIntersection}
+use Rattle.probe.specs.Probe.{aheadOf, turnedTo, acrossRay, probeLine, probed}
 use Rattle.rounds.specs.Rounds.{FitEnd, movedPoint, afterMove, afterRefined, afterProbe, round as oneRound, onward, rounds}
-use Rattle.edges.specs.Fit.{EdgeInput, FitReport, edgeEntry, startOf, fitStart, fitFrom, fitReported, fitted, fitAfter, fitOf}
+use Rattle.openings.specs.Openings.{startOf, fitStart, fitFrom}
+use Rattle.edges.specs.Fit.{EdgeInput, FitReport, edgeEntry, fitReported, fitted, fitAfter, fitOf}
 
 -- what the definitions give, and what the sum says
 pub data Row : Type 1 where
@@ -253,6 +256,6 @@ unfolding table P1 P2 P3 P4 P5 P6 P7 P8 P9 P10 P11 P12 tests R U four two line c
     edgesOf edgeHit hitsFrom inserted sortedInto droppedAfter dropped spanOf spanned crossed crossingWith edgeDirection meanDirection vertexDirection atVertex insideEdge atLengthFrom atLength atLengthAsked crossingAsked joinedAsked
     closestOnAll leastOf leastOfAll nearestOf fractionOn heldPoint measuredTo closestOnEdge lineProjection distOf halved between halving fromLine
     camberPoint numbersOf circleFrom circlesFrom allNumbers stored badCircle anyBad midPointOf lineNormalized rayNormalized rayProjection atDistance shiftedRay halfwayRay circleOn tryInscribed judged trial
-    next run whole lastCircle afterTrial refineMove measure refineStep tmaxFrom tmax storeEntry tmaxAsked lastInList frontAndBack centerDot lessForward dirFwd voteOf votesFrom dirUpper orientEntry fwdAsked upperAsked lastPair middleLine facedLine clipLine endCamberRay
+    next run whole lastCircle withRoom afterTrial refineMove measure refineStep tmaxFrom tmax storeEntry tmaxAsked lastInList frontAndBack centerDot lessForward dirFwd voteOf votesFrom dirUpper orientEntry fwdAsked upperAsked lastPair middleLine facedLine clipLine endCamberRay
     gapOf capPoint capIntersection aheadOf turnedTo acrossRay probeLine probed movedPoint afterMove afterRefined afterProbe oneRound onward rounds edgeEntry startOf fitStart fitFrom fitReported fitted fitAfter
 rows-hold = (refl, (refl, (refl, (refl, (refl, (refl, (refl, (refl, (refl, (refl, (refl, (refl, tt))))))))))))

@@ -45,7 +45,7 @@ use Rattle.inscribed.specs.Store.{circleFrom}
 use Rattle.inscribed.specs.declared.Inscribed.{Inscribed}
 use Rattle.inscribed.proofs.Inscribed as T
 use Rattle.inscribed.proofs.Inscribed.Laws as T′
-use Rattle.lists.specs.Lists.{tmaxFrom, tmax}
+use Rattle.measures.specs.Lists.{tmaxFrom, tmax}
 use Rattle.records.proofs.Laws.{first, tmax-start, tmax-kept, tmax-won, tmax-over}
 use Rattle.records.proofs.index_of_tmax_of.Key.{name as #records·index-of-tmax-of}
 use Rattle.records.proofs.index_of_tmax_of as f

@@ -7,8 +7,8 @@ use lib.ListN.{length}
 use Rattle.camber.proofs.MarchFrom.{Waits, waits-start, waits-ends, waits-grown, waits-ready, ready-ends, ready-next, spent-unfinished, refused-unfinished, finished-listed}
 use Rattle.camber.specs.March.{marchRun}
 use Rattle.advance.specs.Outcome.{listedAdvanced}
-use Rattle.refine.specs.Report.{reported}
-use Rattle.refine.specs.Machine.{refining}
+use Rattle.moves.specs.Report.{reported}
+use Rattle.moves.specs.Machine.{refining}
 use Rattle.runs.specs.Run.{under}
 use Rattle.camber.proofs.march.march_from.Statement.{statement}
 use Rattle.camber.proofs.march.march_from.Tie as tie
@@ -55,7 +55,7 @@ circle-at-requires : tie.Need-circle-at-requires Inv-loop μ-loop
 circle-at-requires c κs = let r = waits-ready _ _ _ _ _ _ _ _ _ _ (c .before .before .before .before .before .before .before .loop .inv .1) (c .before .before .before .before .before .refine .result) (c .before .before .before .before .before .refine .last .1 .1 .0) (c .before .before .before .before .before .refine .ensures) (finished-listed (c .before .before .before .before .before .refine .result .end) (c .before .enum-told .given .1)) in omega (arith, r .fits, r .counted, c .before .before .before .before .before .before .before .before .before .before .pre .1)
 
 advance-requires : tie.Need-advance-requires Inv-loop μ-loop
-advance-requires c κs = let r = waits-ready _ _ _ _ _ _ _ _ _ _ (c .before .before .before .before .before .before .before .before .loop .inv .1) (c .before .before .before .before .before .before .refine .result) (c .before .before .before .before .before .before .refine .last .1 .1 .0) (c .before .before .before .before .before .before .refine .ensures) (finished-listed (c .before .before .before .before .before .before .refine .result .end) (c .before .before .enum-told .given .1)) in (c .before .before .before .before .before .before .before .before .before .before .before .pre .0, r .within)
+advance-requires c κs = let r = waits-ready _ _ _ _ _ _ _ _ _ _ (c .before .before .before .before .before .before .before .before .loop .inv .1) (c .before .before .before .before .before .before .refine .result) (c .before .before .before .before .before .before .refine .last .1 .1 .0) (c .before .before .before .before .before .before .refine .ensures) (finished-listed (c .before .before .before .before .before .before .refine .result .end) (c .before .before .enum-told .given .1)) in (c .before .before .before .before .before .before .before .before .before .before .before .pre .0, omega (arith, r .within))
 
 enum-known-end : tie.Need-enum-known-end Inv-loop μ-loop
 enum-known-end c = search needs

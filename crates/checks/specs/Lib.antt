@@ -1,0 +1,2 @@
+-- The checks of orient.rs.
+pub mod Checks

@@ -1,0 +1,2 @@
+-- The second half of an extraction.
+pub mod Halves

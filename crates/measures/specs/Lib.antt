@@ -1,0 +1,2 @@
+-- What is told of a list of circles.
+pub mod Lists

@@ -1,0 +1,3 @@
+-- The moves while circles wait, and what a run returns.
+pub mod Machine
+pub mod Report

@@ -1,0 +1,2 @@
+-- The probe into the gap of an open section.
+pub mod Probe

@@ -1,0 +1,3 @@
+-- Surface points: what each step gives, bit for bit.
+pub mod Rays
+pub mod Listed

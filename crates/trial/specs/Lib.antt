@@ -1,0 +1,3 @@
+-- The trial between two circles.
+pub mod Trial
+pub mod Tried

@@ -1,0 +1,130 @@
+// The trial between two circles.
+use errors::Refusal;
+use errors::ScalarAnswer;
+use inscribed::Inscribed;
+use inscribed::InscribedAnswer;
+use line2::Line2;
+use points::AngleDir;
+use queries::CrossingAnswer;
+use surface2::SurfacePoint2;
+use surface2::SurfacePointAnswer;
+ghost use mathlib.Core.Path.{_≡_};
+ghost use mathlib.Core.Option.{some};
+ghost use Rattle.curve2.specs.Entry.{HasPoints};
+ghost use Rattle.inscribed.specs.Circles.{listedInscribed};
+ghost use Rattle.trial.specs.Trial.{tryInscribed, inscribedOn, sizeOf, greater, judged, trial};
+ghost use Rattle.trial.specs.Tried.{listedTried, triedOn};
+
+// A circle, none, or a refusal.
+pub enum TriedAnswer {
+    Value(Inscribed),
+    Nothing,
+    Refused(Refusal),
+}
+
+// The circle on a line: none where the line has no crossing.
+pub fn try_inscribed(section: &[f64], tol: f64, line: Line2) -> TriedAnswer
+    requires { ⌜ HasPoints (now section) ⌝ }
+    ensures { λ r. ⌜ listedTried r ≡ tryInscribed (now (section .entry)) tol line ⌝ }
+{
+    match queries::crossings::crossing_line(section, line) {
+        CrossingAnswer::Value(k) => match halving::from_crossing(section, tol, k) {
+            InscribedAnswer::Value(c) => TriedAnswer::Value(c),
+            InscribedAnswer::Refused(r) => TriedAnswer::Refused(r),
+        },
+        CrossingAnswer::Missed => TriedAnswer::Nothing,
+        CrossingAnswer::Refused(r) => TriedAnswer::Refused(r),
+    }
+}
+
+// The circle on a line: 8 where the line has not exactly two hits.
+pub fn inscribed_on(section: &[f64], tol: f64, line: Line2) -> InscribedAnswer
+    requires { ⌜ HasPoints (now section) ⌝ }
+    ensures { λ r. ⌜ listedInscribed r ≡ inscribedOn (now (section .entry)) tol line ⌝ }
+{
+    match try_inscribed(section, tol, line) {
+        TriedAnswer::Value(c) => InscribedAnswer::Value(c),
+        TriedAnswer::Nothing => InscribedAnswer::Refused(Refusal::NoCrossing),
+        TriedAnswer::Refused(r) => InscribedAnswer::Refused(r),
+    }
+}
+
+fn size_of(x: f64) -> f64
+    ensures { λ r. ⌜ r ≡ sizeOf x ⌝ }
+{
+    if x < 0.0 { -x } else { x }
+}
+
+fn greater(a: f64, b: f64) -> f64
+    ensures { λ r. ⌜ r ≡ greater a b ⌝ }
+{
+    if a < b { b } else { a }
+}
+
+// Whether the circle c on the halfway ray is added: it is larger than both, or its radius or its place is off by more than the tolerance.
+fn judged(tol: f64, a: Inscribed, b: Inscribed, ray: SurfacePoint2, c: Inscribed) -> TriedAnswer
+    ensures { λ r. ⌜ listedTried r ≡ judged tol a b ray (some c) ⌝ }
+{
+    let ra = a.r;
+    let rb = b.r;
+    let rc = c.r;
+    let p = ray.point;
+    let o = c.center();
+    let most = greater(ra, rb);
+    let off = size_of(rc - ((rb - ra) * 0.5 + ra));
+    match errors::watch(off) {
+        ScalarAnswer::Value(e_radius) => match points::dist(p, o) {
+            ScalarAnswer::Value(e_pos) => {
+                if most < rc {
+                    return TriedAnswer::Value(c);
+                }
+                if tol < e_radius {
+                    return TriedAnswer::Value(c);
+                }
+                if tol < e_pos {
+                    return TriedAnswer::Value(c);
+                }
+                TriedAnswer::Nothing
+            }
+            ScalarAnswer::Refused(r) => TriedAnswer::Refused(r),
+        },
+        ScalarAnswer::Refused(r) => TriedAnswer::Refused(r),
+    }
+}
+
+// The trial on the halfway ray of a and b.
+fn refined_on(
+    section: &[f64],
+    tol: f64,
+    a: Inscribed,
+    b: Inscribed,
+    ray: SurfacePoint2,
+) -> TriedAnswer
+    requires { ⌜ HasPoints (now section) ⌝ }
+    ensures { λ r. ⌜ listedTried r ≡ triedOn (now (section .entry)) tol a b ray ⌝ }
+{
+    let turned = ray.normal_rotated_90(AngleDir::Ccw);
+    let line = turned.to_line();
+    match try_inscribed(section, tol, line) {
+        TriedAnswer::Value(c) => judged(tol, a, b, ray, c),
+        TriedAnswer::Nothing => TriedAnswer::Nothing,
+        TriedAnswer::Refused(r) => TriedAnswer::Refused(r),
+    }
+}
+
+// The trial: the circle to add between a, the earlier, and b, if there is one.
+pub fn inscribed_refined(section: &[f64], tol: f64, a: Inscribed, b: Inscribed) -> TriedAnswer
+    requires { ⌜ HasPoints (now section) ⌝ }
+    ensures { λ r. ⌜ listedTried r ≡ trial (now (section .entry)) tol a b ⌝ }
+{
+    match a.camber_point() {
+        SurfacePointAnswer::Value(ca) => match b.camber_point() {
+            SurfacePointAnswer::Value(cb) => match ca.halfway(cb) {
+                SurfacePointAnswer::Value(ray) => refined_on(section, tol, a, b, ray),
+                SurfacePointAnswer::Refused(r) => TriedAnswer::Refused(r),
+            },
+            SurfacePointAnswer::Refused(r) => TriedAnswer::Refused(r),
+        },
+        SurfacePointAnswer::Refused(r) => TriedAnswer::Refused(r),
+    }
+}
