@@ -1,5 +1,5 @@
-// The sample of crates/oraclecases: inputs from one seed each, and the checksums of the published functions' answers to them.
-// The steps of `section` and `args` are those of crates/oraclecases/src/inputs.rt, number for number.
+// The sample that crates/cases replays: inputs from one seed each, and the checksums of the published functions' answers to them.
+// The steps of `section` and `args` are those of crates/samples/src/inputs.rt, number for number.
 use crate::port::Call;
 use crate::{Wanted, circle_numbers, is_added, port, wanted};
 
@@ -143,7 +143,26 @@ fn answer(kind: u64, seed: u64) -> Option<Left> {
     Some(left)
 }
 
-// Prints crates/oraclecases/src/table.rt. Of each kind every third input at most ends without a value.
+// What is asked, by kind: the functions' names, as crates/replay has them.
+const NAMES: [&str; KINDS as usize] = [
+    "crossing_line",
+    "try_inscribed",
+    "inscribed_from_crossing",
+    "inscribed_refined",
+    "at_closest_to_point",
+    "at_length",
+    "march",
+    "extract_circles",
+    "extract_circles fit_open_edge 0",
+    "extract_circles fit_open_edge 1",
+    "extract_circles tmax_fwd",
+    "extract_circles lower",
+    "extract_circles camber_curve",
+    "extract_circles end_clip_line",
+    "extract_circles average_spacing",
+];
+
+// Prints the lines of the sample, the last ones of crates/cases/stdin. Of each kind every third input at most ends without a value.
 pub fn print_table() {
     let mut seeds = vec![];
     let mut sums = vec![];
@@ -164,16 +183,8 @@ pub fn print_table() {
         seeds.push(word);
         sums.push(left.checksum());
     }
-    println!("// Written by `oracle/table`: the inputs' seeds, and the checksums of the answers that engeom's published functions give.");
-    for (name, words) in [("SEEDS", seeds), ("CHECKSUMS", sums)] {
-        println!("pub const {name}: [u64; {CASES}] = [");
-        for w in &words {
-            println!("    {w},");
-        }
-        println!("];");
-        if name == "SEEDS" {
-            println!();
-        }
+    for (i, (seed, sum)) in seeds.iter().zip(&sums).enumerate() {
+        println!("sample {seed} {sum} {}", NAMES[i % KINDS as usize]);
     }
     eprintln!("without a value, by kind: {empty:?}");
 }

@@ -2,7 +2,7 @@
 use mathlib.Core.Path.{_≡_, refl}
 use mathlib.Core.Bool.{true, false}
 use mathlib.Core.List.{List}
-use Prim.Native.Nat.{ℕ, zero, suc, _+_, _-_, _≤_, _<_}
+use Prim.Native.Nat.{ℕ, suc, _+_, _-_, _≤_, _<_}
 use native.Mathlib.Numerals.{add-one}
 use native.Mathlib.Omega.{arith}
 use borrow.Author.Tests.{le-leb, lt-leb}
@@ -18,18 +18,10 @@ use Rattle.runs.specs.Run.{ended, spent, under}
 use Rattle.inscribed.specs.declared.Inscribed.{Inscribed}
 use Rattle.halving.specs.Halving.{fromCrossing}
 use Rattle.moves.specs.Machine.{finished}
-use Rattle.advance.specs.Advance.{fraction, stepOf, triedLine}
+use Rattle.steps.specs.Steps.{stepOf, triedLine}
 use Rattle.advance.specs.Outcome.{Outcome, ending, circleOutcome, triesFrom, unitsOf}
 
--- ---- the fractions
-
-pub last-fraction : (k : ℕ) → 3 ≤ k → fraction 3 ≡ fraction k
-last-fraction zero h = absurd (omega arith)
-last-fraction (suc zero) h = absurd (omega arith)
-last-fraction (suc (suc zero)) h = absurd (omega arith)
-last-fraction (suc (suc (suc k))) h = refl
-
--- the loop over them
+-- ---- the loop over the fractions
 module _ (ns : List Float) (tol : Float) (c : Inscribed) (ray : SurfacePoint2) (limit k u : ℕ) (whole : Outcome) (inv : triesFrom ns tol c ray (under limit) (4 - k) k u ≡ whole) where
   module _ (few : k < 4) where
     one-more : 4 - k ≡ suc (4 - (k + 1))

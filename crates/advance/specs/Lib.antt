@@ -1,3 +1,2 @@
 -- One advance along the camber line: `advance_search`.
-pub mod Advance
 pub mod Outcome

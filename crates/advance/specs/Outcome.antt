@@ -13,7 +13,7 @@ use Rattle.halving.specs.Halving.{fromCrossing}
 use Rattle.moves.specs.Machine.{End, finished}
 use Rattle.moves.specs.Report.{listedEnd}
 use Rattle.ahead.specs.Ahead.{Ahead, done, along, lookAhead}
-use Rattle.advance.specs.Advance.{stepOf, triedLine}
+use Rattle.steps.specs.Steps.{stepOf, triedLine}
 use Rattle.advance.specs.declared.Advanced.{Advanced}
 
 -- an ending of the march, or the next circle; each with the units taken so far

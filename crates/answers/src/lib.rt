@@ -1,4 +1,4 @@
-// How the numbers of a question come in by slices, and how an answer goes out by slices.
+// How the numbers of a question come in by a slice, and how an answer goes out by slices.
 // The first word told is 0 for a result, 99 for "nothing", or the number of the refusal. A place that a slice doesn't have reads as NaN and is not written.
 use cleaning::CurveAnswer;
 use curve2::Entry;
@@ -8,11 +8,11 @@ use inscribed::Inscribed;
 use inscribed::InscribedAnswer;
 use line2::Line2;
 use moves::Run;
-use moves::RunEnd;
 use points::Point2;
 use points::Vector2;
 use sections::BoolAnswer;
-use stations::StationAnswer;
+use trial::TriedAnswer;
+use vertices::StationAnswer;
 
 pub fn number_at(numbers: &[f64], i: usize) -> f64 {
     if i < numbers.len() {
@@ -37,136 +37,116 @@ pub fn tell_refusal(told: &mut [u64], r: Refusal) {
     tell(told, 0, errors::number(r) as u64);
 }
 
-// ---- arguments: two tolerances, then a point or a line in four numbers, or circles of seven
+fn word_of(yes: bool) -> u64 {
+    if yes {
+        return 1;
+    }
+    0
+}
 
-pub fn point_of(args: &[f64]) -> Point2 {
-    let x = number_at(args, 2);
-    let y = number_at(args, 3);
+// ---- arguments: the two tolerances come first, then points, vectors and lines, or circles of seven
+
+pub fn point_from(args: &[f64], i: usize) -> Point2 {
+    if 100 < i {
+        return Point2 { x: 0.0, y: 0.0 };
+    }
+    let x = number_at(args, i);
+    let y = number_at(args, i + 1);
     Point2 { x, y }
 }
 
-pub fn second_point_of(args: &[f64]) -> Point2 {
-    let x = number_at(args, 4);
-    let y = number_at(args, 5);
-    Point2 { x, y }
-}
-
-pub fn vector_of(args: &[f64]) -> Vector2 {
-    let x = number_at(args, 2);
-    let y = number_at(args, 3);
+pub fn vector_from(args: &[f64], i: usize) -> Vector2 {
+    let p = point_from(args, i);
+    let x = p.x;
+    let y = p.y;
     Vector2 { x, y }
 }
 
-pub fn line_of(args: &[f64]) -> Line2 {
-    let origin = point_of(args);
-    let x = number_at(args, 4);
-    let y = number_at(args, 5);
+pub fn line_from(args: &[f64], i: usize) -> Line2 {
+    if 100 < i {
+        return line_from_nothing();
+    }
+    let origin = point_from(args, i);
+    let direction = vector_from(args, i + 2);
+    Line2 { origin, direction }
+}
+
+fn line_from_nothing() -> Line2 {
     Line2 {
-        origin,
-        direction: Vector2 { x, y },
+        origin: Point2 { x: 0.0, y: 0.0 },
+        direction: Vector2 { x: 0.0, y: 0.0 },
     }
 }
 
-pub fn first_circle_of(args: &[f64]) -> Inscribed {
-    let cx = number_at(args, 2);
-    let cy = number_at(args, 3);
-    let r = number_at(args, 4);
-    let p0x = number_at(args, 5);
-    let p0y = number_at(args, 6);
-    let p1x = number_at(args, 7);
-    let p1y = number_at(args, 8);
-    Inscribed {
-        cx,
-        cy,
-        r,
-        p0x,
-        p0y,
-        p1x,
-        p1y,
+// The circle in seven numbers from place i on, 9 at most.
+pub fn circle_from(args: &[f64], i: usize) -> Inscribed {
+    let mut seven = [0.0 / 0.0; 7];
+    if i < 10 {
+        if 16 <= args.len() {
+            return inscribed::store::circle_at(&args[i..], 0);
+        }
     }
-}
-
-pub fn second_circle_of(args: &[f64]) -> Inscribed {
-    let cx = number_at(args, 9);
-    let cy = number_at(args, 10);
-    let r = number_at(args, 11);
-    let p0x = number_at(args, 12);
-    let p0y = number_at(args, 13);
-    let p1x = number_at(args, 14);
-    let p1y = number_at(args, 15);
-    Inscribed {
-        cx,
-        cy,
-        r,
-        p0x,
-        p0y,
-        p1x,
-        p1y,
-    }
+    inscribed::store::circle_at(&seven, 0)
 }
 
 // ---- answers
+
+pub fn put_point(p: Point2, out: &mut [f64], i: usize) {
+    if i < 100 {
+        put(out, i, p.x);
+        put(out, i + 1, p.y);
+    }
+}
+
+pub fn put_vector(v: Vector2, out: &mut [f64], i: usize) {
+    if i < 100 {
+        put(out, i, v.x);
+        put(out, i + 1, v.y);
+    }
+}
 
 pub fn tell_line(line: Line2, out: &mut [f64], told: &mut [u64]) {
     let o = line.origin;
     let d = line.direction;
     tell(told, 0, 0);
-    put(out, 0, o.x);
-    put(out, 1, o.y);
-    put(out, 2, d.x);
-    put(out, 3, d.y);
+    put_point(o, out, 0);
+    put_vector(d, out, 2);
 }
 
-pub fn put_circle(c: Inscribed, out: &mut [f64]) {
-    put(out, 0, c.cx);
-    put(out, 1, c.cy);
-    put(out, 2, c.r);
-    put(out, 3, c.p0x);
-    put(out, 4, c.p0y);
-    put(out, 5, c.p1x);
-    put(out, 6, c.p1y);
-}
-
-pub fn put_second_circle(c: Inscribed, out: &mut [f64]) {
-    put(out, 7, c.cx);
-    put(out, 8, c.cy);
-    put(out, 9, c.r);
-    put(out, 10, c.p0x);
-    put(out, 11, c.p0y);
-    put(out, 12, c.p1x);
-    put(out, 13, c.p1y);
+// Puts a circle into slot k, 0 or 1.
+pub fn put_circle(c: Inscribed, out: &mut [f64], k: usize) {
+    if k < 2 {
+        if 14 <= out.len() {
+            inscribed::store::put_circle(out, k, c);
+        }
+    }
 }
 
 pub fn tell_circle(answer: InscribedAnswer, out: &mut [f64], told: &mut [u64]) {
     match answer {
-        InscribedAnswer::Value(c) => {
-            tell(told, 0, 0);
-            put_circle(c, out);
-        }
+        InscribedAnswer::Value(c) => put_circle(c, out, 0),
         InscribedAnswer::Refused(r) => tell_refusal(told, r),
+    }
+}
+
+pub fn tell_tried(answer: TriedAnswer, out: &mut [f64], told: &mut [u64]) {
+    match answer {
+        TriedAnswer::Value(c) => put_circle(c, out, 0),
+        TriedAnswer::Nothing => tell(told, 0, 99),
+        TriedAnswer::Refused(r) => tell_refusal(told, r),
     }
 }
 
 pub fn tell_scalar(answer: ScalarAnswer, out: &mut [f64], told: &mut [u64]) {
     match answer {
-        ScalarAnswer::Value(x) => {
-            tell(told, 0, 0);
-            put(out, 0, x);
-        }
+        ScalarAnswer::Value(x) => put(out, 0, x),
         ScalarAnswer::Refused(r) => tell_refusal(told, r),
     }
 }
 
 pub fn tell_bool(answer: BoolAnswer, told: &mut [u64]) {
     match answer {
-        BoolAnswer::Value(yes) => {
-            tell(told, 0, 0);
-            if yes {
-                tell(told, 1, 1);
-            } else {
-                tell(told, 1, 0);
-            }
-        }
+        BoolAnswer::Value(yes) => tell(told, 1, word_of(yes)),
         BoolAnswer::Refused(r) => tell_refusal(told, r),
     }
 }
@@ -174,13 +154,8 @@ pub fn tell_bool(answer: BoolAnswer, told: &mut [u64]) {
 pub fn tell_curve(answer: CurveAnswer, told: &mut [u64]) {
     match answer {
         CurveAnswer::Value(c) => {
-            tell(told, 0, 0);
             tell(told, 1, c.count as u64);
-            if c.is_closed {
-                tell(told, 2, 1);
-            } else {
-                tell(told, 2, 0);
-            }
+            tell(told, 2, word_of(c.is_closed));
         }
         CurveAnswer::Refused(r) => tell_refusal(told, r),
     }
@@ -191,12 +166,9 @@ pub fn tell_station(answer: StationAnswer, out: &mut [f64], told: &mut [u64]) {
         StationAnswer::Value(s) => {
             let p = s.point;
             let d = s.direction;
-            tell(told, 0, 0);
             tell(told, 1, s.index as u64);
-            put(out, 0, p.x);
-            put(out, 1, p.y);
-            put(out, 2, d.x);
-            put(out, 3, d.y);
+            put_point(p, out, 0);
+            put_vector(d, out, 2);
             put(out, 4, s.fraction);
         }
         StationAnswer::Refused(r) => tell_refusal(told, r),
@@ -205,13 +177,9 @@ pub fn tell_station(answer: StationAnswer, out: &mut [f64], told: &mut [u64]) {
 
 pub fn tell_run(run: Run, told: &mut [u64]) {
     let end = run.end;
+    tell(told, 0, moves::end_number(end) as u64);
     tell(told, 1, run.count as u64);
     tell(told, 2, run.units as u64);
-    match end {
-        RunEnd::Finished => tell(told, 0, 0),
-        RunEnd::Spent => tell(told, 0, 14),
-        RunEnd::Refused(r) => tell_refusal(told, r),
-    }
 }
 
 pub fn tell_entry(entry: Entry, told: &mut [u64]) {

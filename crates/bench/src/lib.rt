@@ -1,13 +1,13 @@
 // Loops over the library that bench/ times, for a program in another language to call.
+use closest::NearestAnswer;
 use line2::Line2;
 use moves::Run;
 use moves::RunEnd;
 use points::Point2;
 use points::Vector2;
 use queries::CrossingAnswer;
-use queries::NearestAnswer;
-use rounds::EdgeEnd;
-use rounds::EdgeFit;
+use round::EdgeEnd;
+use round::EdgeFit;
 ghost use Prim.Native.Nat.{_+_, _<_};
 ghost use lib.ListN.{length};
 ghost use Rattle.curve2.specs.Entry.{HasPoints};
@@ -30,7 +30,7 @@ pub extern "C" fn bench_roots_by_digits(xs: &[f64]) -> f64 {
     let mut sum: f64 = 0.0;
     let mut i: usize = 0;
     while i < xs.len() {
-        sum = sum + root::digits::square_root_by_digits(xs[i]);
+        sum = sum + digits::square_root_by_digits(xs[i]);
         i += 1;
     }
     sum
@@ -55,7 +55,7 @@ pub extern "C" fn bench_nearest(section: &[f64], ps: &[f64]) -> f64 {
 fn square_from(section: &[f64], x: f64, y: f64) -> f64
     requires { ⌜ HasPoints (now section) ⌝ }
 {
-    match queries::closest::closest_point(section, Point2 { x, y }) {
+    match closest::closest_point(section, Point2 { x, y }) {
         NearestAnswer::Value(n) => {
             let at = n.at;
             at.square

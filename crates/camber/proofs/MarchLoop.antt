@@ -19,13 +19,14 @@ use Rattle.runs.proofs.SequelLaws.{Sequel, sequel}
 use Rattle.inscribed.specs.Store.{stored}
 use Rattle.inscribed.specs.declared.Inscribed.{Inscribed}
 use Rattle.halving.specs.Halving.{fromCrossing}
-use Rattle.moves.specs.Machine.{State, refining, advancing, over, circlesIn, End, finished, lastOf, measure}
+use Rattle.inscribed.specs.Circles.{lastCircle}
+use Rattle.moves.specs.Machine.{State, refining, advancing, over, circlesIn, End, finished, measure}
 use Rattle.moves.specs.Report.{Report, reported}
 use Rattle.refine.specs.Refinement.{refineStep, refineRun}
 use Rattle.refine.proofs.MachineLaws.{refine-falls}
 use Rattle.refine.proofs.RefinedLaws.{refined-done}
 use Rattle.ahead.specs.Ahead.{Ahead, done, along, lookAhead}
-use Rattle.advance.specs.Advance.{stepOf, triedLine}
+use Rattle.steps.specs.Steps.{stepOf, triedLine}
 use Rattle.camber.specs.March.{afterCircle, afterLine, advanceMove, marchStep, marchRun}
 use Rattle.advance.specs.Outcome.{Outcome, ending, going, circleOutcome, lineOutcome, triesFrom, aheadOutcome, advanceOutcome}
 use Rattle.camber.proofs.MarchMachine.{march-falls, Refines, march-alike, refines-goes, refines-pays}
@@ -62,7 +63,7 @@ module _ (ns : List Float) (tol : Float) (slots limit : ℕ) (old : List Float) 
     cs = c₀ ∷ ds
 
     abbrev c : Inscribed
-    c = lastOf c₀ ds
+    c = lastCircle c₀ ds
 
     module _ (ray : SurfacePoint2) (is : lookAhead ns c ≡ result (along ray)) where
       step-at : (k : ℕ) → marchStep ns tol slots (advancing cs k) ≡ cond (lt (stepOf c k) tol) (ends finished) (pays (afterLine ns tol cs k (triedLine ns c ray k)))

@@ -13,11 +13,12 @@ use Rattle.runs.specs.Run.{Move, ends, goes, pays, Out, under, never, whole}
 use Rattle.inscribed.specs.Store.{slots}
 use Rattle.inscribed.specs.declared.Inscribed.{Inscribed}
 use Rattle.halving.specs.Halving.{fromCrossing}
-use Rattle.moves.specs.Machine.{State, refining, advancing, over, circlesIn, End, finished, lastOf, refineMove, measure}
+use Rattle.inscribed.specs.Circles.{lastCircle}
+use Rattle.moves.specs.Machine.{State, refining, advancing, over, circlesIn, End, finished, refineMove, measure}
 use Rattle.moves.specs.Report.{Report, reported, refusedOnEntry}
 use Rattle.circles.specs.Asked.{tryAsked}
 use Rattle.ahead.specs.Ahead.{Ahead, done, along, lookAhead}
-use Rattle.advance.specs.Advance.{stepOf, triedLine}
+use Rattle.steps.specs.Steps.{stepOf, triedLine}
 
 -- After a crossing was tried with fraction number k: its circle waits, the next fraction is due, or 13: "the advance finds no line".
 unfoldable pub afterCircle : List Inscribed → Answer Inscribed → State
@@ -39,11 +40,11 @@ advanceMove ns tol cs c k (result (along ray)) = cond (lt (stepOf c k) tol) (end
 
 -- "when none waits, the advance from the last brings the next, the end or a refusal"
 unfoldable pub marchStep : List Float → Float → ℕ → State → Move State End
-unfolding refineMove advanceMove lastOf
+unfolding refineMove advanceMove lastCircle
 marchStep ns tol slots (refining cs []) = goes (advancing cs 0)
 marchStep ns tol slots (refining cs (b ∷ ws)) = refineMove ns tol slots cs b ws
 marchStep ns tol slots (advancing [] k) = ends finished
-marchStep ns tol slots (advancing (c ∷ cs) k) = advanceMove ns tol (c ∷ cs) (lastOf c cs) k (lookAhead ns (lastOf c cs))
+marchStep ns tol slots (advancing (c ∷ cs) k) = advanceMove ns tol (c ∷ cs) (lastCircle c cs) k (lookAhead ns (lastCircle c cs))
 marchStep ns tol slots (over cs n) = ends (refusal n)
 
 -- the march from a state on, with u units taken

@@ -1,23 +1,17 @@
--- The checks of orient.rs on a list of circles: whether it has to be turned, or its contacts swapped. Assumes nothing.
-use mathlib.Core.Bool.{Bool, false, not, cond}
-use mathlib.Core.List.{List, [], _∷_, map}
+-- The checks of orient.rs by a vector, on a list of circles: whether it has to be turned, or its contacts swapped. Assumes nothing.
+use mathlib.Core.Bool.{Bool, not, cond}
+use mathlib.Core.List.{List, [], _∷_}
 use Prim.Native.Nat.{ℕ, suc, _-_}
 use lib.Dec.{ltb}
-use lib.ListN.{length, getD}
-use lib.Ieee.{Float, lt, ofBits, binary64}
-use Rattle.errors.specs.Answer.{Answer, result, watched, _>>=_}
+use lib.ListN.{length}
+use lib.Ieee.{Float, lt}
+use Rattle.errors.specs.Answer.{Answer, result, _>>=_}
 use Rattle.errors.specs.Numbers.{isPlus}
-use Rattle.points.specs.Numbers.{_*f_, f½}
 use Rattle.points.specs.Points.{dotOf}
 use Rattle.points.specs.declared.Vector2.{Vector2}
-use Rattle.curve2.specs.Section.{wholeLength}
-use Rattle.cleaning.specs.Cleaning.{curveOf, numbersOf}
-use Rattle.stations.specs.Stations.{atClosest}
-use Rattle.stations.specs.Along.{lengthAlong}
-use Rattle.inscribed.specs.Circles.{center, contactDir}
-use Rattle.inscribed.specs.Store.{circleFrom}
+use Rattle.inscribed.specs.Circles.{contactDir}
 use Rattle.inscribed.specs.declared.Inscribed.{Inscribed}
-use Rattle.measures.specs.Lists.{frontAndBack, tmax, averageSpacing}
+use Rattle.measures.specs.Lists.{frontAndBack}
 
 -- ---- `check_dir_fwd`: by a vector that points forward
 
@@ -31,35 +25,6 @@ lessForward dir front back = centerDot dir front >>= λ a. centerDot dir back >>
 -- turned if the front lies less far forward than the back
 unfoldable pub dirFwd : Vector2 → List Inscribed → Answer Bool
 dirFwd dir cs = frontAndBack cs >>= λ ends. lessForward dir (ends .front) (ends .back)
-
--- ---- `check_tmax_fwd`: by the greatest radius
-
--- 5e-2
-abbrev pub spacingPart : Float
-spacingPart = ofBits binary64 0x3fa9_9999_9999_999a
-
--- the thickest circle
-unfoldable pub thickest : List Inscribed → Inscribed
-thickest cs = getD cs (tmax cs) (circleFrom [] 0)
-
--- a length along a curve that isn't less than half of the whole; `ns` are the curve's numbers
-unfoldable pub behindHalf : List Float → Float → Answer Bool
-behindHalf ns along = watched (wholeLength ns) >>= λ whole. result (not (lt along (whole *f f½)))
-
--- the place of c on the curve is that of the nearest station to its centre
-unfoldable pub inBackHalf : List Float → Inscribed → Answer Bool
-inBackHalf ns c =
-    atClosest ns (center c) >>= λ station.
-    lengthAlong ns (station .index) (station .fraction) >>= λ along.
-    behindHalf ns along
-
--- on the camber curve of a tolerance: 5 where that leaves fewer than two points
-unfoldable pub onCurve : List Inscribed → Float → Answer Bool
-onCurve cs tol = curveOf tol false (map center cs) >>= λ curve. inBackHalf (numbersOf curve) (thickest cs)
-
--- the tolerance is a part of the average spacing
-unfoldable pub tmaxFwd : List Inscribed → Answer Bool
-tmaxFwd cs = averageSpacing cs >>= λ spacing. onCurve cs (spacing *f spacingPart)
 
 -- ---- `check_dir_upper`: by a vector that points to the upper side
 

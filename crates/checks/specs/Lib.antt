@@ -1,2 +1,2 @@
--- The checks of orient.rs.
+-- The checks of orient.rs by a vector.
 pub mod Checks

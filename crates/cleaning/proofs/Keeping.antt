@@ -1,13 +1,13 @@
--- Laws of cleaning point by point, of the curve in an output, and of the points backwards. Assumes nothing.
+-- Laws of cleaning point by point, and of the curve in an output. Assumes nothing.
 use mathlib.Core.Path.{_≡_, refl, sym, ap, _∙_}
-use mathlib.Core.Bool.{Bool, true, false, _||_}
-use mathlib.Core.List.{List, [], _∷_, _++_, append-assoc, append-nil, reverse, reverse-cons}
+use mathlib.Core.Bool.{Bool, true, false}
+use mathlib.Core.List.{List, [], _∷_, _++_, append-assoc, append-nil}
 use Prim.Native.Nat.{ℕ, zero, suc, _+_, _*_, _%_, _≤_, _<_}
 use native.Mathlib.Numerals.{add-one}
 use native.Mathlib.Omega.{arith}
 use borrow.Author.Tests.{le-ltb}
 use lib.Dec.{ltb}
-use lib.ListN.{length, getD, take, drop, set, length-append, length-drop, length-reverse}
+use lib.ListN.{length, getD, take, drop, set, length-append, length-drop}
 use lib.Seq.{sets-eq, take-at, drop-append-add, drop-drop}
 use lib.Ieee.{Float, le}
 use Rattle.errors.specs.Answer.{Answer, result, refusal}
@@ -15,8 +15,7 @@ use Rattle.errors.specs.Refusals.{numberOf}
 use Rattle.errors.specs.declared.Refusal.{Refusal}
 use Rattle.points.specs.declared.Point2.{Point2}
 use Rattle.curve2.specs.Section.{pointsOf, pointAt, plainDist}
-use Rattle.curve2.specs.Entry.{tested, badCount, badNumbers, badTolerance, notSpaced, sectionEntry}
-use Rattle.curve2.specs.declared.AlsoBad.{AlsoBad}
+use Rattle.curve2.specs.Entry.{tested}
 use Rattle.curve2.proofs.Laws.{points-step, points-end}
 use Rattle.cleaning.specs.Cleaning.{kept, keptAfter, lastOf, endsMeet, forcedClosed, closing, numbersOf, placed, curveAnswer, outputAfter, Made}
 use Rattle.cleaning.specs.Keeping.{Held, put, keep, keepAll, closeHeld, allNear, lastPoint, holding}
@@ -31,19 +30,6 @@ all-passed [] e i = refl
 all-passed ((n, true) ∷ ts) e i = let z : _≡_ {A = ℕ} 0 1 = cc in absurd (omega arith)
 all-passed ((n, false) ∷ ts) e zero = refl
 all-passed ((n, false) ∷ ts) e (suc i) = all-passed ts e i
-
-pub room-passed : (ns : List Float) (tol : Float) (also : AlsoBad) → sectionEntry ns tol also ≡ result tt → also .room ≡ false
-unfolding sectionEntry
-room-passed ns tol also e =
-    all-passed
-    ((1, badCount 4096 (length ns))
-    ∷ (2, badNumbers ns || also .number)
-    ∷ (3, badTolerance tol || also .tolerance)
-    ∷ (4, also .room)
-    ∷ (6, notSpaced ns tol)
-    ∷ [])
-    e
-    3
 
 -- ---- a point more
 
@@ -267,29 +253,3 @@ module _ (tol : Float) (ns : List Float) (p : Point2) (i : ℕ) (few : Bool) (in
   pub no-second : length ns ≤ i → true ≡ few
   unfolding allNear
   no-second h = rw (points-end ns i h) at inv
-
--- ---- backwards
-
-pub backwards-length : (ns : List Float) → length ns % 2 ≡ 0 → length ns ≡ 2 * length (reverse (pointsOf ns))
-backwards-length ns h = omega (arith, points-length ns h, length-reverse (pointsOf ns))
-
--- the points from i on, backwards
-abbrev pub backFrom : List Float → ℕ → List Point2
-backFrom ns i = reverse (pointsOf (drop i ns))
-
-pub back-none : (old ns : List Float) (i : ℕ) → length ns ≤ i → (0 ≡ length (backFrom ns i)) × (old ≡ placed (backFrom ns i) old)
-unfolding numbersOf
-back-none old ns i h = rw (points-end ns i h) (refl, refl)
-
--- one more behind those that are there, the point in front of them
-module _ (ns : List Float) (i j : ℕ) (step : i ≡ j + 2) (fits : i ≤ length ns) where
-  back-step : backFrom ns j ≡ backFrom ns i ++ (pointAt ns j ∷ [])
-  back-step = rw (points-step ns j (omega arith), step) (reverse-cons (pointAt ns j) (pointsOf (drop (j + 2) ns)))
-
-  pub back-one : (old out : List Float) (count : ℕ) → 2 * count + 2 ≤ length old → count ≡ length (backFrom ns i) → out ≡ placed (backFrom ns i) old
-      → (h : Held) → h ≡ put count (pointAt ns j) out → h ≡ holding old (backFrom ns j)
-  back-one old out count room e inv h f = f ∙ rw (inv, e, back-step) (put-holding old (backFrom ns i) (pointAt ns j) (omega arith))
-
-pub put-count : (count : ℕ) (p : Point2) (out : List Float) (h : Held) → h ≡ put count p out → h .kept .count ≡ count + 1
-unfolding put
-put-count count p out h f = rw f

@@ -1,5 +1,4 @@
--- Cleaning a list of points into a curve, point by point and whole, what such a curve is, and a section's points backwards.
+-- Cleaning a list of points into a curve, point by point and whole, and what such a curve is.
 pub mod Cleaning
 pub mod Keeping
 pub mod Curves
-pub mod Reversed

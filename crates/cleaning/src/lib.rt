@@ -1,17 +1,13 @@
-// Cleaning a list of points into a curve, and a section's points backwards.
-use curve2::AlsoBad;
-use curve2::Entry;
+// Cleaning a list of points into a curve.
 use errors::Refusal;
 use points::Point2;
 ghost use mathlib.Core.Path.{_≡_};
-ghost use mathlib.Core.List.{reverse};
 ghost use Prim.Native.Nat.{_+_, _*_, _%_, _≤_, _<_};
 ghost use lib.Dec.{ltb};
 ghost use lib.ListN.{length};
 ghost use Rattle.errors.specs.Answer.{result};
 ghost use Rattle.curve2.specs.Section.{pointAt, pointsOf, plainDist};
-ghost use Rattle.cleaning.specs.Cleaning.{kept, endsMeet, closing, curveOf, cleaned, placed, Made};
-ghost use Rattle.cleaning.specs.Reversed.{backwards};
+ghost use Rattle.cleaning.specs.Cleaning.{kept, endsMeet, closing, curveOf, cleaned, Made};
 ghost use Rattle.cleaning.specs.Keeping.{put, keep, closeHeld, holding};
 
 // A curve in an output: how many points it has, and whether its ends meet.
@@ -33,7 +29,7 @@ pub struct Kept {
 }
 
 // The point whose numbers start at i.
-fn point_at(points: &[f64], i: usize) -> Point2
+pub fn point_at(points: &[f64], i: usize) -> Point2
     requires { ⌜ i + 1 < length (now points) ⌝ }
     ensures { λ r. ⌜ r ≡ pointAt (now (points .entry)) i ⌝ }
 {
@@ -55,7 +51,7 @@ fn distance(a: Point2, b: Point2) -> f64
 }
 
 // Whether the ends of a section are within the tolerance of each other.
-fn ends_meet(points: &[f64], tol: f64) -> bool
+pub fn ends_meet(points: &[f64], tol: f64) -> bool
     requires { ⌜ length (now points) % 2 ≡ 0 ⌝ }
     requires { ⌜ 2 ≤ length (now points) ⌝ }
     ensures { λ r. ⌜ r ≡ endsMeet tol (pointsOf (now (points .entry))) ⌝ }
@@ -199,43 +195,4 @@ pub fn from_points(points: &[f64], tol: f64, force_closed: bool, out: &mut [f64]
         return CurveAnswer::Refused(Refusal::NoRoom);
     }
     clean_points(points, tol, force_closed, out)
-}
-
-// A section's points backwards, into the output's start.
-fn put_backwards(points: &[f64], out: &mut [f64])
-    requires { ⌜ length (now points) % 2 ≡ 0 ⌝ }
-    requires { ⌜ length (now points) ≤ length (now out) ⌝ }
-    ensures { λ r. ⌜ now (out .exit) ≡ placed (reverse (pointsOf (now (points .entry)))) (now (out .entry)) ⌝ }
-{
-    let mut i = points.len();
-    let mut count: usize = 0;
-    while 0 < i {
-        i -= 2;
-        let p = point_at(points, i);
-        let k = put(out, count, p);
-        count = k.count;
-    }
-}
-
-// A section's points backwards. The output keeps what stands behind them.
-pub fn reversed(points: &[f64], tol: f64, out: &mut [f64]) -> CurveAnswer
-    ensures { λ r. ⌜ Made (backwards (now (points .entry)) tol (length (now (out .entry)))) tol (now (out .entry)) (now (out .exit)) r ⌝ }
-{
-    let n = points.len();
-    let also = AlsoBad {
-        number: false,
-        tolerance: false,
-        room: out.len() < n,
-    };
-    match curve2::section_entry(points, tol, also) {
-        Entry::Passed => {
-            put_backwards(points, out);
-            let is_closed = ends_meet(&out[..n], tol);
-            CurveAnswer::Value(Curve {
-                count: n / 2,
-                is_closed: is_closed,
-            })
-        }
-        Entry::Refused(r) => CurveAnswer::Refused(r),
-    }
 }

@@ -137,11 +137,5 @@ module _ (ns : List Float) (tol : Float) (also : AlsoBad) (e : sectionEntry ns t
   }
 
   -- and of the other arguments
-  pub entry-number : also .number ≡ false
-  entry-number = or-right (badNumbers ns) _ (none .1 .0)
-
-  pub entry-tolerance : also .tolerance ≡ false
-  entry-tolerance = or-right (badTolerance tol) _ (none .1 .1 .0)
-
   pub entry-room : also .room ≡ false
   entry-room = none .1 .1 .1 .0

@@ -4,7 +4,7 @@ use mathlib.Core.List.{List, [], _∷_}
 use Prim.Native.Nat.{ℕ, _+_, _-_}
 use lib.ListN.{length, getD}
 use lib.Ieee.{Float, nan, le}
-use Rattle.root.specs.Sqrt.{sqrtOf}
+use Rattle.digits.specs.Sqrt.{sqrtOf}
 use Rattle.points.specs.Numbers.{_+f_, _*f_, f0}
 use Rattle.points.specs.Points.{minus}
 use Rattle.points.specs.declared.Point2.{Point2}

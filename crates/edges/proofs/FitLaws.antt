@@ -14,10 +14,11 @@ use Rattle.runs.specs.Run.{under}
 use Rattle.inscribed.specs.Store.{circlesOf, stored, slots}
 use Rattle.inscribed.proofs.StoreLaws.{length-circles, stored-longer, circles-of-stored}
 use Rattle.inscribed.specs.declared.Inscribed.{Inscribed}
-use Rattle.rounds.specs.declared.EdgeFit.{EdgeFit}
-use Rattle.rounds.specs.Rounds.{Fit, firstProgress}
-use Rattle.rounds.specs.Reached.{Fits}
-use Rattle.rounds.proofs.RoundLaws.{Grown, rounds-grown}
+use Rattle.round.specs.declared.EdgeFit.{EdgeFit}
+use Rattle.round.specs.Round.{Fit}
+use Rattle.round.specs.Reached.{Fits}
+use Rattle.rounds.specs.Rounds.{firstProgress}
+use Rattle.rounds.proofs.RoundsLaws.{Grown, rounds-grown}
 use Rattle.openings.specs.Openings.{endLast, fitStart, fitFrom}
 use Rattle.openings.specs.declared.Start.{Start}
 use Rattle.openings.proofs.Laws.{length-end-last}

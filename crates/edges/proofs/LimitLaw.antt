@@ -20,7 +20,8 @@ use Rattle.refine.proofs.MachineLaws.{Part, refine-grows}
 use Rattle.ends.specs.Ends.{lastPair}
 use Rattle.probe.specs.Probe.{probed}
 use Rattle.gap.specs.declared.Gap.{Gap}
-use Rattle.rounds.specs.Rounds.{Fit, fit, Progress, Round, stops, goes, afterRefined, afterOut, afterProbe, round, onward, rounds, firstProgress}
+use Rattle.round.specs.Round.{Fit, fit, Progress, Round, stops, goes, afterRefined, afterOut, afterProbe, round}
+use Rattle.rounds.specs.Rounds.{onward, rounds, firstProgress}
 use Rattle.openings.specs.Openings.{endLast, fitStart, fitFrom}
 use Rattle.openings.specs.declared.Start.{Start}
 use Rattle.edges.specs.Fit.{EdgeInput, edgeEntry, fitReported, fitted, fitAfter, fitOf}

@@ -11,9 +11,9 @@ use Rattle.runs.specs.Run.{Ending, ended, under}
 use Rattle.inscribed.specs.Store.{slots, circlesOf, stored, badStore, badStoreCount}
 use Rattle.inscribed.specs.declared.Inscribed.{Inscribed}
 use Rattle.curve2.specs.Entry.{badGeneral}
-use Rattle.rounds.specs.declared.EdgeFit.{EdgeFit}
-use Rattle.rounds.specs.Reached.{listedEdgeEnd}
-use Rattle.rounds.specs.Rounds.{FitEnd, Fit}
+use Rattle.round.specs.declared.EdgeFit.{EdgeFit}
+use Rattle.round.specs.Reached.{listedEdgeEnd}
+use Rattle.round.specs.Round.{FitEnd, Fit}
 use Rattle.openings.specs.Openings.{endLast, beyond, fitStart, fitFrom}
 
 -- what is handed in: a section with its tolerance, a general tolerance, a store with its stated count, and which end is meant

@@ -1,7 +1,7 @@
 // The open edge: whether the section is open at an end, and the point where the camber line meets the gap.
 use curve2::AlsoBad;
 use curve2::Entry;
-use rounds::EdgeFit;
+use round::EdgeFit;
 use sections::BoolAnswer;
 ghost use mathlib.Core.Path.{_≡_};
 ghost use Prim.Native.Nat.{_*_, _≤_};
@@ -93,7 +93,7 @@ pub fn fit_open_edge(
                 limit,
             )
         }
-        Entry::Refused(r) => rounds::refused(r, count, 0),
+        Entry::Refused(r) => round::refused(r, count, 0),
     }
 }
 

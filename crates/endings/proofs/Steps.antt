@@ -9,7 +9,7 @@ use lib.Ieee.{Float, inf, lt, le, eq}
 use lib.Ieee.Scale.{finite}
 use Rattle.errors.specs.Answer.{Answer, result, refusal, watched, _>>=_}
 use Rattle.errors.specs.Numbers.{isPlus}
-use Rattle.root.specs.Sqrt.{sqrtOf}
+use Rattle.digits.specs.Sqrt.{sqrtOf}
 use Rattle.points.specs.Numbers.{_+f_, _-f_, _*f_, _/f_, f0, f½, f1, tiny, within}
 use Rattle.points.specs.Points.{watchedPoint, watchedVector, minus, moved, plus, over, rotated, difference, dotOf, normOf, distOf, normalized}
 use Rattle.points.specs.declared.Point2.{Point2}
@@ -28,14 +28,15 @@ use Rattle.curve2.specs.declared.AlsoBad.{AlsoBad}
 use Rattle.queries.specs.Edges.{Edge, sectionEdges}
 use Rattle.queries.specs.Hits.{edgeHit, hitsFrom, sorted, dropped, nearbyOnEdge}
 use Rattle.queries.specs.Crossing.{Span, spanOf, spanned, crossed, crossingWith, crossingOf}
-use Rattle.queries.specs.Nearest.{closestOnAll, leastOfAll, nearestOf}
+use Rattle.closest.specs.Nearest.{closestOnAll, leastOfAll, nearestOf}
 use Rattle.queries.specs.declared.Crossing.{Crossing}
 use Rattle.inscribed.specs.Circles.{center, contact0, contact1, contactDir, camberPoint}
 use Rattle.inscribed.specs.declared.Inscribed.{Inscribed}
-use Rattle.halving.specs.Halving.{Ends, halved, between, isWide, halving, resolveTol, twoToMinus52, firstEnds, fromLine, fromCrossing}
+use Rattle.bisection.specs.Bisection.{Ends, halved, between, isWide, halving}
+use Rattle.halving.specs.Halving.{resolveTol, twoToMinus52, firstEnds, fromLine, fromCrossing}
 use Rattle.trial.specs.Trial.{circleOn, tryInscribed, orNoCircle, inscribedOn, sizeOf, middleRadius, judged, trial}
 use Rattle.ahead.specs.Ahead.{farther, farthest, along, lookAhead}
-use Rattle.advance.specs.Advance.{stepOf, wideEnough, triedLine}
+use Rattle.steps.specs.Steps.{stepOf, wideEnough, triedLine}
 use Rattle.endings.specs.Unspent.{Unspent, good, other}
 
 -- ---- steps in a row, and a choice

@@ -36,8 +36,8 @@ pub fn open_gap_segment(section: &[f64], section_tol: f64) -> GapAnswer
         return GapAnswer::Refused(Refusal::ClosedSection);
     }
     let end = section.len() / 2 - 1;
-    let a = stations::vertices::vertex_at(section, 0);
-    let b = stations::vertices::vertex_at(section, end);
+    let a = vertices::vertex_at(section, 0);
+    let b = vertices::vertex_at(section, end);
     match Line2::from_points(a, b) {
         LineAnswer::Value(chord) => GapAnswer::Value(Gap { a, b, chord }),
         LineAnswer::Refused(r) => GapAnswer::Refused(r),

@@ -1,85 +1,14 @@
 // Camber curves: through the centres of the circles in a store, alone or between two end points.
 use cleaning::CurveAnswer;
 use curve2::Entry;
-use errors::Refusal;
 use points::Point2;
 ghost use mathlib.Core.Path.{_≡_};
-ghost use mathlib.Core.Bool.{false, _||_};
+ghost use mathlib.Core.Bool.{false};
 ghost use mathlib.Core.List.{_∷_, [], _++_};
 ghost use Prim.Native.Nat.{_+_, _*_, _≤_};
 ghost use lib.ListN.{length};
-ghost use Rattle.curve2.specs.Entry.{listedEntry};
 ghost use Rattle.cleaning.specs.Cleaning.{curveOf, Made};
-ghost use Rattle.geometry.specs.Camber.{centers, badPoint, badCenters, camberEntry, camberCurve, camberCurveBetween, putAll};
-
-// A point with a coordinate that isn't finite or lies beyond 1,000,000.
-fn is_bad_point(p: Point2) -> bool
-    ensures { λ r. ⌜ r ≡ badPoint p ⌝ }
-{
-    let x = p.x;
-    let y = p.y;
-    if curve2::is_in_range(x) {
-        return !curve2::is_in_range(y);
-    }
-    true
-}
-
-// Whether one of two end points is a bad point.
-fn has_bad_end(le_point: Point2, te_point: Point2) -> bool
-    ensures { λ r. ⌜ r ≡ (badPoint «le_point» || badPoint «te_point») ⌝ }
-{
-    if is_bad_point(le_point) {
-        return true;
-    }
-    is_bad_point(te_point)
-}
-
-// Whether a centre in use, as far as the store holds them, is a bad point.
-pub fn has_bad_center(store: &[f64], count: usize) -> bool
-    ensures { λ r. ⌜ r ≡ badCenters (now (store .entry)) count ⌝ }
-{
-    let n = inscribed::store::least(count, inscribed::store::slots_up_to(1024, store.len()));
-    let mut k: usize = 0;
-    while k < n {
-        let c = inscribed::store::circle_at(store, k);
-        let p = c.center();
-        if is_bad_point(p) {
-            return true;
-        }
-        k += 1;
-    }
-    false
-}
-
-// The entry tests, with whether one of the end points is bad, how many they are, and the output's length.
-fn entered(store: &[f64], count: usize, tol: f64, bad_end: bool, ends: usize, room: usize) -> Entry
-    requires { ⌜ ends ≤ 2 ⌝ }
-    ensures { λ r. ⌜ listedEntry r ≡ camberEntry (now (store .entry)) count tol «bad_end» ends room ⌝ }
-{
-    if inscribed::store::has_bad_circle(store, count) {
-        return Entry::Refused(Refusal::BadNumber);
-    }
-    if has_bad_center(store, count) {
-        return Entry::Refused(Refusal::BadNumber);
-    }
-    if bad_end {
-        return Entry::Refused(Refusal::BadNumber);
-    }
-    if curve2::is_bad_tolerance(tol) {
-        return Entry::Refused(Refusal::Tolerance);
-    }
-    if inscribed::store::is_bad_store_count(store, count) {
-        return Entry::Refused(Refusal::NoRoom);
-    }
-    let points = count + ends;
-    if room < 2 * points + 2 {
-        return Entry::Refused(Refusal::NoRoom);
-    }
-    if points < 2 {
-        return Entry::Refused(Refusal::TooFewKept);
-    }
-    Entry::Passed
-}
+ghost use Rattle.geometry.specs.Camber.{centers, camberCurve, camberCurveBetween, putAll};
 
 // Puts the centres of the first circles one after the other, the first at place `first`.
 fn put_centers(store: &[f64], count: usize, points: &mut [f64], first: usize)
@@ -132,7 +61,7 @@ fn curve_between(
 pub fn camber_curve(store: &[f64], count: usize, tol: f64, out: &mut [f64]) -> CurveAnswer
     ensures { λ r. ⌜ Made (camberCurve (now (store .entry)) count tol (length (now (out .entry)))) tol (now (out .entry)) (now (out .exit)) r ⌝ }
 {
-    match entered(store, count, tol, false, 0, out.len()) {
+    match centers::entered(store, count, tol, false, 0, out.len()) {
         Entry::Passed => centers_curve(store, count, tol, out),
         Entry::Refused(r) => CurveAnswer::Refused(r),
     }
@@ -149,8 +78,8 @@ pub fn make_camber_curve(
 ) -> CurveAnswer
     ensures { λ r. ⌜ Made (camberCurveBetween «le_point» «te_point» (now (store .entry)) count tol (length (now (out .entry)))) tol (now (out .entry)) (now (out .exit)) r ⌝ }
 {
-    let bad = has_bad_end(le_point, te_point);
-    match entered(store, count, tol, bad, 2, out.len()) {
+    let bad = centers::has_bad_end(le_point, te_point);
+    match centers::entered(store, count, tol, bad, 2, out.len()) {
         Entry::Passed => curve_between(le_point, te_point, store, count, tol, out),
         Entry::Refused(r) => CurveAnswer::Refused(r),
     }

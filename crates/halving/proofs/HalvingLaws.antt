@@ -13,11 +13,12 @@ use Rattle.points.specs.Points.{minus, dotOf, normOf, distOf}
 use Rattle.points.specs.declared.Point2.{Point2}
 use Rattle.line2.specs.Lines.{atParam}
 use Rattle.line2.specs.declared.Line2.{Line2}
-use Rattle.queries.specs.Nearest.{nearestOf}
+use Rattle.closest.specs.Nearest.{nearestOf}
 use Rattle.inscribed.specs.declared.Inscribed.{Inscribed}
-use Rattle.halving.specs.Halving.{Ends, twoToMinus52, resolveTol, searchEnd, halved, between, isWide, halving, firstEnds, fromLine}
-use Rattle.halving.specs.declared.InscribedEnd.{InscribedEnd}
-use Rattle.halving.specs.SourceLoop.{SourceLoop, stops, refuses, goes}
+use Rattle.bisection.specs.Bisection.{Ends, searchEnd, halved, between, isWide, halving}
+use Rattle.bisection.specs.declared.InscribedEnd.{InscribedEnd}
+use Rattle.bisection.specs.SourceLoop.{SourceLoop, stops, refuses, goes}
+use Rattle.halving.specs.Halving.{twoToMinus52, resolveTol, firstEnds, fromLine}
 use Rattle.halving.proofs.Dyadic.{dyadic, one-is-dyadic, zero-is-dyadic, last-is-dyadic, next-power, middle, apart}
 
 -- ---- a halving puts the middle in the place of one of the fractions

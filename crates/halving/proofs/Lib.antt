@@ -1,4 +1,3 @@
 -- Laws that belong to no one function.
-pub mod HalvingSteps
 pub mod Dyadic
 pub mod HalvingLaws

@@ -1,4 +1,3 @@
 -- The circle of a crossing, by halving.
 pub mod Halving
-pub mod Ends
-pub mod SourceLoop
+pub mod HalvedFrom

@@ -35,10 +35,6 @@ unfolding circlesFrom
 length-circles ns k zero = refl
 length-circles ns k (suc n) = ap suc (length-circles ns (suc k) n)
 
-pub length-stored : (cs : List Inscribed) (old : List Float) → 7 * length cs ≤ length old → length (stored cs old) ≡ length old
-unfolding stored
-length-stored cs old h = omega (arith, length-append (allNumbers cs) (drop (7 * length cs) old), length-all cs, length-drop (7 * length cs) old)
-
 -- ---- a circle by its numbers
 
 -- seven equal numbers are the same circle

@@ -12,9 +12,10 @@ use lib.Ieee.{Float, lt, ofInt, binary64}
 use Rattle.errors.specs.Answer.{Answer, result, refusal, _>>=_}
 use Rattle.points.specs.Numbers.{_/f_, f0}
 use Rattle.inscribed.specs.Store.{circleAt, circlesFrom, circlesOf}
+use Rattle.inscribed.specs.Circles.{lastCircle}
 use Rattle.inscribed.specs.declared.Inscribed.{Inscribed}
 use Rattle.inscribed.proofs.StoreLaws.{length-circles}
-use Rattle.measures.specs.Lists.{lastCircle, frontAndBack, tmaxFrom, tmax, spacingAfter, spacingSum, averageSpacing}
+use Rattle.measures.specs.Lists.{frontAndBack, tmaxFrom, tmax, spacingAfter, spacingSum, averageSpacing}
 
 -- ---- the circle at a place
 

@@ -9,17 +9,12 @@ use Rattle.errors.specs.Answer.{Answer, result, refusal, watched, _>>=_}
 use Rattle.errors.specs.Refusals.{numberOf}
 use Rattle.points.specs.Numbers.{_+f_, _/f_, f0}
 use Rattle.points.specs.Points.{distOf}
-use Rattle.inscribed.specs.Circles.{center}
+use Rattle.inscribed.specs.Circles.{center, lastCircle}
 use Rattle.inscribed.specs.declared.Inscribed.{Inscribed}
 use Rattle.measures.specs.declared.FrontAndBack.{FrontAndBack}
 use Rattle.measures.specs.declared.FrontAndBackAnswer.{FrontAndBackAnswer}
 
 -- ---- `front_and_back`
-
--- the last of c and those after it
-unfoldable pub lastCircle : Inscribed → List Inscribed → Inscribed
-lastCircle c [] = c
-lastCircle c (d ∷ ds) = lastCircle d ds
 
 -- "the first and last inscribed circles, or an error if the collection is empty": 7; one circle is both
 unfoldable pub frontAndBack : List Inscribed → Answer FrontAndBack

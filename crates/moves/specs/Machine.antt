@@ -9,6 +9,7 @@ use lib.Ieee.{Float}
 use Rattle.errors.specs.Answer.{Answer, result, refusal}
 use Rattle.runs.specs.Run.{Move, ends, goes, pays}
 use Rattle.trial.specs.Trial.{trial}
+use Rattle.inscribed.specs.Circles.{lastCircle}
 use Rattle.inscribed.specs.declared.Inscribed.{Inscribed}
 
 -- "it holds the list, at first the old circles, the waiting circles, and the units". Refining, with those that wait, the newest first;
@@ -30,10 +31,6 @@ End = Answer (Unit {0})
 abbrev pub finished : End
 finished = result tt
 
-unfoldable pub lastOf : Inscribed → List Inscribed → Inscribed
-lastOf c [] = c
-lastOf c (d ∷ cs) = lastOf d cs
-
 -- What the trial gives, with w waiting and n accepted: "A circle it adds waits too, or 16. If it adds none, the tried one is accepted behind the last, or 15 if no slot is free."
 unfoldable pub withRoom : ℕ → ℕ → ℕ → Answer (Option Inscribed) → Answer (Option Inscribed)
 withRoom slots n w (refusal k) = refusal k
@@ -51,9 +48,9 @@ afterTrial slots cs b ws r = afterRoom cs b ws (withRoom slots (length cs) (suc 
 
 -- "While any waits, the newest is tried against the *current* last. An empty list accepts it without a unit, or 15 if the store has no slot. Else comes a unit, or 14 at the limit, then the trial, which may refuse."
 unfoldable pub refineMove : List Float → Float → ℕ → List Inscribed → Inscribed → List Inscribed → Move State End
-unfolding afterTrial lastOf
+unfolding afterTrial lastCircle
 refineMove ns tol slots [] b ws = cond (leb slots 0) (ends (refusal 15)) (goes (refining (b ∷ []) ws))
-refineMove ns tol slots (c ∷ cs) b ws = pays (afterTrial slots (c ∷ cs) b ws (trial ns tol (lastOf c cs) b))
+refineMove ns tol slots (c ∷ cs) b ws = pays (afterTrial slots (c ∷ cs) b ws (trial ns tol (lastCircle c cs) b))
 
 -- The measure that falls at each move. An accepted circle counts for more than all that can wait or be tried before the next one.
 abbrev pub waitingLeft : List Inscribed → ℕ

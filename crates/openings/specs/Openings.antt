@@ -17,7 +17,8 @@ use Rattle.ends.specs.declared.Pair.{Pair}
 use Rattle.openings.specs.declared.Start.{Start}
 use Rattle.openings.specs.declared.StartAnswer.{StartAnswer}
 use Rattle.gap.specs.Gap.{gapOf, capIntersection}
-use Rattle.rounds.specs.Rounds.{Fit, fit, firstProgress, rounds}
+use Rattle.round.specs.Round.{Fit, fit}
+use Rattle.rounds.specs.Rounds.{firstProgress, rounds}
 
 -- "at the front the order is turned first": the end that is meant comes last
 abbrev pub endLast : Bool → List Inscribed → List Inscribed

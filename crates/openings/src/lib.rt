@@ -8,7 +8,7 @@ use line2::Line2;
 use line2::LineAnswer;
 use points::Point2;
 use points::PointAnswer;
-use rounds::EdgeFit;
+use round::EdgeFit;
 use sections::BoolAnswer;
 ghost use mathlib.Core.Path.{_≡_};
 ghost use Prim.Native.Nat.{_*_, _≤_};
@@ -19,7 +19,7 @@ ghost use Rattle.runs.specs.Run.{under};
 ghost use Rattle.inscribed.specs.Store.{circlesOf};
 ghost use Rattle.sections.specs.Asked.{listedBool};
 ghost use Rattle.ends.specs.Ends.{lastPair};
-ghost use Rattle.rounds.specs.Reached.{Fits};
+ghost use Rattle.round.specs.Reached.{Fits};
 ghost use Rattle.openings.specs.Openings.{endLast, beyondLine, beyond, startOf, listedStart, fitStart, fitFrom};
 
 // Where the rounds of a fit start: the gap, and the first point on it.
@@ -84,7 +84,7 @@ pub fn fit_at_back(
             let point = s.point;
             rounds::rounds(section, tol, store, slots, count, gap, point, limit)
         }
-        StartAnswer::Refused(r) => rounds::refused(r, count, 0),
+        StartAnswer::Refused(r) => round::refused(r, count, 0),
     }
 }
 
@@ -107,8 +107,8 @@ fn is_beyond(section: &[f64], clip: Line2) -> BoolAnswer
     ensures { λ r. ⌜ listedBool r ≡ beyondLine (now (section .entry)) clip ⌝ }
 {
     let end = section.len() / 2 - 1;
-    let p = stations::vertices::vertex_at(section, 0);
-    let q = stations::vertices::vertex_at(section, end);
+    let p = vertices::vertex_at(section, 0);
+    let q = vertices::vertex_at(section, end);
     match clip.scalar_project(p) {
         ScalarAnswer::Value(a) => {
             if !(0.0 < a) {

@@ -14,8 +14,9 @@ use Rattle.sections.specs.Asked.{listedBool}
 use Rattle.sections.specs.declared.BoolAnswer.{BoolAnswer}
 use Rattle.inscribed.specs.Store.{circlesOf, stored, badStore, badStoreCount}
 use Rattle.inscribed.specs.declared.Inscribed.{Inscribed}
-use Rattle.geometry.specs.Camber.{badCenters}
-use Rattle.checks.specs.Checks.{dirFwd, tmaxFwd, dirUpper}
+use Rattle.centers.specs.Centers.{badCenters}
+use Rattle.checks.specs.Checks.{dirFwd, dirUpper}
+use Rattle.tmax.specs.Tmax.{tmaxFwd}
 use Rattle.orient.specs.declared.OrientFwdAft.{OrientFwdAft}
 use Rattle.orient.specs.declared.OrientFwdAft.the-variants.{TmaxFwd, Airflow, Fwd}
 use Rattle.orient.specs.declared.OrientUpperLower.{OrientUpperLower}

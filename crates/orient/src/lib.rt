@@ -71,7 +71,7 @@ fn is_bad_fwd(how: OrientFwdAft, store: &[f64], count: usize) -> bool
     ensures { λ r. ⌜ r ≡ badFwd how (now (store .entry)) count ⌝ }
 {
     match how {
-        OrientFwdAft::TmaxFwd => geometry::has_bad_center(store, count),
+        OrientFwdAft::TmaxFwd => centers::has_bad_center(store, count),
         OrientFwdAft::Airflow(v) => !is_finite_vector(v),
         OrientFwdAft::Fwd(v) => !is_finite_vector(v),
     }
@@ -83,7 +83,7 @@ fn turn_of(how: OrientFwdAft, store: &[f64], count: usize) -> BoolAnswer
     ensures { λ r. ⌜ listedBool r ≡ turnOf how (circlesOf (now (store .entry)) count) ⌝ }
 {
     match how {
-        OrientFwdAft::TmaxFwd => checks::check_tmax_fwd(store, count),
+        OrientFwdAft::TmaxFwd => tmax::check_tmax_fwd(store, count),
         OrientFwdAft::Airflow(v) => checks::check_dir_fwd(store, count, negated(v)),
         OrientFwdAft::Fwd(v) => checks::check_dir_fwd(store, count, v),
     }

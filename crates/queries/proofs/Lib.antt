@@ -1,6 +1,5 @@
 -- Laws that belong to no one function.
 pub mod EdgeLaws
-pub mod ClosestLaws
 pub mod PassLaws
 pub mod SeenLaws
 pub mod CrossingLaws

@@ -1,6 +1,5 @@
--- What is asked of a section's edges: the nearest point to a point, and where a line crosses.
+-- What is asked of a section's edges: where a line hits them, and where it crosses.
 pub mod Edges
-pub mod Nearest
 pub mod Hits
 pub mod Crossing
 pub mod Seen

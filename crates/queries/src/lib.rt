@@ -1,23 +1,9 @@
-// What is asked of a section's edges: the nearest point to a point, and where a line crosses.
+// What is asked of a section's edges: where a line hits them, and where it crosses.
 use errors::Refusal;
 use line2::Line2;
-use segment2::EdgePoint;
 
-pub mod closest;
 pub mod crossings;
 pub mod hits;
-
-// The nearest point of a section: its edge, and the point on it.
-pub struct Nearest {
-    pub index: usize,
-    pub at: EdgePoint,
-}
-
-// The nearest point, or why there is none.
-pub enum NearestAnswer {
-    Value(Nearest),
-    Refused(Refusal),
-}
 
 // A line whose ends, at 0 and at 1, are its two hits.
 pub struct Crossing {

@@ -8,7 +8,7 @@ use native.Mathlib.Nat.{mod-eq-of-lt, lt-of-le-of-lt, le-of-lt, mul-le-mul-left,
 use native.Mathlib.Omega.{arith}
 use lib.Pow.{split}
 use lib.Dec.{T, leb, leb→le, nleb→lt}
-use Rattle.root.specs.Parts.{Near}
+use Rattle.digits.specs.Parts.{Near}
 
 product-lt : {a b m n : ℕ} → a < m → b < n → a * b < m * n
 product-lt {a} {b} {m} {n} h k = lt-of-le-of-lt (mul-le-mul-left a (le-of-lt k)) (mul-lt-mul-of-pos-right h (lt-of-le-of-lt zero-le k))

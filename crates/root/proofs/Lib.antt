@@ -1,11 +1,3 @@
 -- Laws that belong to no one function.
-pub mod Whole
-pub mod Turns
-pub mod Rounded
-pub mod Fields
-pub mod Scaling
-pub mod Cases
 pub mod Exact
-pub mod Units
-pub mod Kept
-pub mod Correct
+pub mod Asked

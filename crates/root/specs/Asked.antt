@@ -3,7 +3,7 @@ use mathlib.Core.Bool.{cond}
 use lib.Ieee.{Float}
 use lib.Ieee.Scale.{finite}
 use Rattle.errors.specs.Answer.{Answer, refusal, watched}
-use Rattle.root.specs.Sqrt.{sqrtOf}
+use Rattle.digits.specs.Sqrt.{sqrtOf}
 
 -- The root inside a step: 12 where it isn't finite, so for a number below zero too.
 abbrev pub rootOf : Float → Answer Float

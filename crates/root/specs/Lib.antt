@@ -1,6 +1,2 @@
--- Square roots: of whole numbers, and of a binary64 value, correctly rounded.
-pub mod Whole
-pub mod Sqrt
-pub mod Nearest
+-- The square root of a binary64 value, asked for directly.
 pub mod Asked
-pub mod Parts

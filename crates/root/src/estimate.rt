@@ -3,7 +3,7 @@
 ghost use mathlib.Core.Path.{_≡_};
 ghost use mathlib.Core.Bool.{true};
 ghost use Prim.Native.Nat.{_*_, _^_, _≤_, _<_};
-ghost use Rattle.root.specs.Parts.{Near};
+ghost use Rattle.digits.specs.Parts.{Near};
 
 // One step of Newton's method for w, half of 1 / √m. n is 2 * m.
 fn improved(n: f64, w: f64) -> f64 {

@@ -1,15 +1,11 @@
-// Square roots: of whole numbers, and of f64, correctly rounded.
+// Square roots of f64, correctly rounded, and the root asked for directly.
 
 ghost use mathlib.Core.Path.{_≡_};
 ghost use Rattle.errors.specs.Refusals.{listedScalar};
 ghost use Rattle.root.specs.Asked.{rootAsked};
-ghost use Rattle.root.specs.Sqrt.{sqrtOf};
+ghost use Rattle.digits.specs.Sqrt.{sqrtOf};
 
-pub mod digits;
 mod estimate;
-pub mod isqrt;
-mod pattern;
-mod word;
 
 // The square root, rounded to the nearest value. A number below zero gives NaN, and -0 gives -0.
 // A normal number above zero has an estimate, which is the root where it is the nearest value. Anything else goes by digits.
@@ -23,12 +19,12 @@ pub fn square_root(x: f64) -> f64
     let field = bits >> 52;
     let fraction = bits & 0x000f_ffff_ffff_ffff;
     if std::num::wrapping_sub_u64(field, 1) < 2046 {
-        let scaled = pattern::normal(field, fraction);
+        let scaled = digits::pattern::normal(field, fraction);
         let a = scaled.a;
         let k = scaled.k;
         let q = estimate::estimate(bits);
         if estimate::is_nearest(a, q) {
-            return pattern::joined(k, q);
+            return digits::pattern::joined(k, q);
         }
     }
     digits::square_root_by_digits(x)

@@ -1,3 +1,2 @@
 -- The rounds of a fit into the gap of a section.
 pub mod Rounds
-pub mod Reached

@@ -184,9 +184,6 @@ module _ {S E : Type 0} (step : S → Move S E) (measure : S → ℕ) (s : S) wh
     pub part-later : (limit more : ℕ) → limit ≤ more → Part (limited limit .state) (limited more .state)
     part-later limit more h = ⊎-elim (λ e. rw e (grows .same _)) (λ k. k .2) (with-larger limit more h)
 
-    pub part-plain : (limit : ℕ) → Part (limited limit .state) (plain .state)
-    part-plain limit = ⊎-elim (λ e. rw e (grows .same _)) (λ k. k .2) (with-plain limit)
-
 -- A run whose measure falls is never unfinished.
 module _ {S E : Type 0} (step : S → Move S E) (measure : S → ℕ) (falls : Falls step measure) (full : ℕ → Bool) where
   pub run-finishes : (f : ℕ) (s : S) (u : ℕ) → measure s < f → run step full f s u .ending ≡ unfinished → ⊥

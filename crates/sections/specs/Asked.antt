@@ -15,9 +15,10 @@ use Rattle.curve2.specs.Entry.{sectionEntry}
 use Rattle.curve2.specs.declared.AlsoBad.{AlsoBad}
 use Rattle.queries.specs.Crossing.{crossingOf, joinedCrossingOf, orNoCrossing}
 use Rattle.queries.specs.declared.Crossing.{Crossing}
-use Rattle.stations.specs.Stations.{lastVertex, atVertex, atClosest}
+use Rattle.vertices.specs.Stations.{lastVertex, atVertex}
+use Rattle.vertices.specs.declared.CurveStation2.{CurveStation2}
 use Rattle.stations.specs.Along.{atLength, lengthAlong}
-use Rattle.stations.specs.declared.CurveStation2.{CurveStation2}
+use Rattle.stations.specs.Closest.{atClosest}
 use Rattle.sections.specs.declared.BoolAnswer.{BoolAnswer}
 
 -- nothing beside the section; a number that isn't finite (2); a place that isn't there (4)

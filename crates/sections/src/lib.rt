@@ -7,13 +7,13 @@ use line2::Line2;
 use points::Point2;
 use queries::Crossing;
 use queries::CrossingAnswer;
-use stations::StationAnswer;
+use vertices::StationAnswer;
 ghost use mathlib.Core.Path.{_≡_};
 ghost use mathlib.Core.Bool.{false};
 ghost use lib.Dec.{ltb};
 ghost use Rattle.errors.specs.Refusals.{listedScalar};
 ghost use Rattle.curve2.specs.Entry.{sectionEntry, listedEntry};
-ghost use Rattle.stations.specs.Stations.{lastVertex, listedStation};
+ghost use Rattle.vertices.specs.Stations.{lastVertex, listedStation};
 ghost use Rattle.sections.specs.Asked.{finitePoint, finiteLine, closedAsked, lengthAsked, frontAsked, backAsked, vertexAsked, atLengthAsked, lengthAlongAsked, closestAsked, crossingAsked, joinedAsked, listedBool};
 ghost use Rattle.sections.specs.Listed.{listedCrossingAsked, askedOf};
 
@@ -108,7 +108,7 @@ pub fn at_front(section: &[f64], tol: f64) -> StationAnswer
     ensures { λ r. ⌜ listedStation r ≡ frontAsked (now (section .entry)) tol ⌝ }
 {
     match entered(section, tol, false, false) {
-        Entry::Passed => stations::vertices::at_front(section, tol),
+        Entry::Passed => vertices::at_front(section, tol),
         Entry::Refused(r) => StationAnswer::Refused(r),
     }
 }
@@ -118,7 +118,7 @@ pub fn at_back(section: &[f64], tol: f64) -> StationAnswer
     ensures { λ r. ⌜ listedStation r ≡ backAsked (now (section .entry)) tol ⌝ }
 {
     match entered(section, tol, false, false) {
-        Entry::Passed => stations::vertices::at_back(section, tol),
+        Entry::Passed => vertices::at_back(section, tol),
         Entry::Refused(r) => StationAnswer::Refused(r),
     }
 }
@@ -129,7 +129,7 @@ pub fn at_vertex(section: &[f64], tol: f64, index: usize) -> StationAnswer
 {
     let there = index < section.len() / 2;
     match entered(section, tol, false, !there) {
-        Entry::Passed => stations::vertices::at_vertex(section, tol, index),
+        Entry::Passed => vertices::at_vertex(section, tol, index),
         Entry::Refused(r) => StationAnswer::Refused(r),
     }
 }

@@ -15,9 +15,9 @@ use Rattle.points.specs.declared.Point2.{Point2}
 use Rattle.curve2.specs.Section.{pointsOf, pointAt, plainDist, lengthsFrom, lengthsOf}
 use Rattle.curve2.specs.Entry.{HasPoints}
 use Rattle.curve2.proofs.Laws.{points-step, points-end}
-use Rattle.stations.specs.Stations.{vertex, lastVertex, atVertex}
+use Rattle.vertices.specs.Stations.{vertex, lastVertex, atVertex}
 use Rattle.stations.specs.Along.{insideEdge, atLengthFrom, lengthAlong}
-use Rattle.stations.specs.declared.CurveStation2.{CurveStation2}
+use Rattle.vertices.specs.declared.CurveStation2.{CurveStation2}
 
 -- where the next vertex' numbers start
 next-vertex : (i : ℕ) → 2 * (i + 1) ≡ 2 * i + 2

@@ -1,3 +1,2 @@
 -- Laws that belong to no one function.
-pub mod VertexLaws
 pub mod AlongLaws

@@ -9,8 +9,8 @@ use Rattle.points.specs.Numbers.{_+f_, _-f_, _*f_, _/f_, f0}
 use Rattle.points.specs.Points.{minus, moved, normalized, watchedPoint}
 use Rattle.points.specs.declared.Point2.{Point2}
 use Rattle.curve2.specs.Section.{pointsOf, nextLength, lengthsOf, wholeLength}
-use Rattle.stations.specs.Stations.{station, atVertex}
-use Rattle.stations.specs.declared.CurveStation2.{CurveStation2}
+use Rattle.vertices.specs.Stations.{station, atVertex}
+use Rattle.vertices.specs.declared.CurveStation2.{CurveStation2}
 
 -- "Otherwise a point inside an edge": edge i from p at length m to q at length n
 unfoldable pub insideEdge : ℕ → Point2 → Point2 → Float → Float → Float → Answer CurveStation2

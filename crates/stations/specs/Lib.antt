@@ -1,3 +1,3 @@
--- Stations: places on a section, by vertex, by length along and by nearness.
-pub mod Stations
+-- Stations on a section by length along and by nearness.
 pub mod Along
+pub mod Closest

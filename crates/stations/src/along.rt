@@ -1,20 +1,19 @@
 // Stations by their length along a section, and the length along of a place on an edge.
-use crate::CurveStation2;
-use crate::StationAnswer;
-use crate::vertices;
 use errors::Refusal;
 use errors::ScalarAnswer;
 use points::Point2;
 use points::PointAnswer;
 use points::Vector2;
 use points::VectorAnswer;
+use vertices::CurveStation2;
+use vertices::StationAnswer;
 ghost use mathlib.Core.Path.{_≡_};
 ghost use Prim.Native.Nat.{_<_};
 ghost use Rattle.errors.specs.Refusals.{listedScalar};
 ghost use Rattle.points.specs.Numbers.{f0};
 ghost use Rattle.curve2.specs.Section.{pointsOf};
 ghost use Rattle.curve2.specs.Entry.{HasPoints};
-ghost use Rattle.stations.specs.Stations.{lastVertex, listedStation};
+ghost use Rattle.vertices.specs.Stations.{lastVertex, listedStation};
 ghost use Rattle.stations.specs.Along.{insideEdge, atLengthFrom, atLength, lengthAlong};
 
 // The station at a length inside an edge, from p at length m to q at length n.

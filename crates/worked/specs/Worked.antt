@@ -6,8 +6,8 @@ use Prim.Native.Nat.{ℕ, zero, suc}
 use lib.Count.{trailingZeros}
 use lib.Ieee.{Float, binary64, ofBits, ofFields, odd, units, round, size, span, climb, neg, sum, add, sub, mul, div, lt, eq, le}
 use Rattle.errors.specs.Answer.{Answer, result, refusal, _>>=_}
-use Rattle.root.specs.Whole.{rootDigits, wholeRoot}
-use Rattle.root.specs.Sqrt.{rootOfUnits, sqrtOf}
+use Rattle.isqrt.specs.Whole.{rootDigits, wholeRoot}
+use Rattle.digits.specs.Sqrt.{rootOfUnits, sqrtOf}
 use Rattle.root.specs.Asked.{rootAsked}
 use Rattle.points.specs.Points.{dotOf, normOf, distOf, difference, normalized}
 use Rattle.points.specs.declared.Vector2.{Vector2}
@@ -21,12 +21,13 @@ use Rattle.queries.specs.Edges.{edgesOf}
 use Rattle.queries.specs.Hits.{edgeHit, hitsFrom, inserted, sortedInto, droppedAfter, dropped}
 use Rattle.queries.specs.Crossing.{spanOf, spanned, crossed, crossingWith}
 use Rattle.queries.specs.declared.Crossing.{Crossing}
-use Rattle.queries.specs.Nearest.{closestOnAll, leastOf, leastOfAll, nearestOf}
+use Rattle.closest.specs.Nearest.{closestOnAll, leastOf, leastOfAll, nearestOf}
 use Rattle.segment2.specs.Closest.{fractionOn, heldPoint, measuredTo, closestOnEdge}
-use Rattle.stations.specs.Stations.{edgeDirection, meanDirection, vertexDirection, atVertex, station}
+use Rattle.vertices.specs.Stations.{edgeDirection, meanDirection, vertexDirection, atVertex, station}
 use Rattle.stations.specs.Along.{insideEdge, atLengthFrom, atLength}
-use Rattle.inscribed.specs.Circles.{inscribed}
-use Rattle.halving.specs.Halving.{Ends, resolveTol, halved, between, isWide, halving, firstEnds, fromLine, fromCrossing}
+use Rattle.inscribed.specs.Circles.{inscribed, lastCircle}
+use Rattle.bisection.specs.Bisection.{Ends, halved, between, isWide, halving}
+use Rattle.halving.specs.Halving.{resolveTol, firstEnds, fromLine, fromCrossing}
 use Rattle.sections.specs.Asked.{atLengthAsked, crossingAsked, joinedAsked}
 use Rattle.inscribed.specs.Circles.{camberPoint}
 use Rattle.inscribed.specs.Store.{numbersOf, circleFrom, circlesFrom, allNumbers, stored, badCircle, anyBad}
@@ -36,9 +37,9 @@ use Rattle.line2.specs.Lines.{lineNormalized}
 use Rattle.surface2.specs.Rays.{rayNormalized, rayProjection, atDistance, shiftedRay, halfwayRay}
 use Rattle.trial.specs.Trial.{circleOn, tryInscribed, judged, trial}
 use Rattle.runs.specs.Run.{Ending, ended, spent, next, run, whole}
-use Rattle.moves.specs.Machine.{lastOf as lastCircle, withRoom, afterTrial, refineMove, measure}
+use Rattle.moves.specs.Machine.{withRoom, afterTrial, refineMove, measure}
 use Rattle.refine.specs.Refinement.{refineStep}
-use Rattle.measures.specs.Lists.{lastCircle as lastInList, frontAndBack, tmaxFrom, tmax}
+use Rattle.measures.specs.Lists.{frontAndBack, tmaxFrom, tmax}
 use Rattle.lists.specs.Asked.{storeEntry, tmaxAsked}
 use Rattle.checks.specs.Checks.{centerDot, lessForward, dirFwd, voteOf, votesFrom, dirUpper}
 use Rattle.orient.specs.Orientation.{orientEntry, fwdAsked, upperAsked}
@@ -47,7 +48,8 @@ use Rattle.orient.specs.declared.OrientUpperLower.the-variants.{Upper, Lower}
 use Rattle.ends.specs.Ends.{lastPair, middleLine, facedLine, clipLine, endCamberRay}
 use Rattle.gap.specs.Gap.{gapOf, capPoint, capIntersection}
 use Rattle.probe.specs.Probe.{aheadOf, turnedTo, acrossRay, probeLine, probed}
-use Rattle.rounds.specs.Rounds.{FitEnd, movedPoint, afterMove, afterRefined, afterProbe, round as oneRound, onward, rounds}
+use Rattle.round.specs.Round.{FitEnd, movedPoint, afterMove, afterRefined, afterProbe, round as oneRound}
+use Rattle.rounds.specs.Rounds.{onward, rounds}
 use Rattle.openings.specs.Openings.{startOf, fitStart, fitFrom}
 use Rattle.edges.specs.Fit.{EdgeInput, FitReport, edgeEntry, fitReported, fitted, fitAfter, fitOf}
 
@@ -256,6 +258,6 @@ unfolding table P1 P2 P3 P4 P5 P6 P7 P8 P9 P10 P11 P12 tests R U four two line c
     edgesOf edgeHit hitsFrom inserted sortedInto droppedAfter dropped spanOf spanned crossed crossingWith edgeDirection meanDirection vertexDirection atVertex insideEdge atLengthFrom atLength atLengthAsked crossingAsked joinedAsked
     closestOnAll leastOf leastOfAll nearestOf fractionOn heldPoint measuredTo closestOnEdge lineProjection distOf halved between halving fromLine
     camberPoint numbersOf circleFrom circlesFrom allNumbers stored badCircle anyBad midPointOf lineNormalized rayNormalized rayProjection atDistance shiftedRay halfwayRay circleOn tryInscribed judged trial
-    next run whole lastCircle withRoom afterTrial refineMove measure refineStep tmaxFrom tmax storeEntry tmaxAsked lastInList frontAndBack centerDot lessForward dirFwd voteOf votesFrom dirUpper orientEntry fwdAsked upperAsked lastPair middleLine facedLine clipLine endCamberRay
+    next run whole lastCircle withRoom afterTrial refineMove measure refineStep tmaxFrom tmax storeEntry tmaxAsked frontAndBack centerDot lessForward dirFwd voteOf votesFrom dirUpper orientEntry fwdAsked upperAsked lastPair middleLine facedLine clipLine endCamberRay
     gapOf capPoint capIntersection aheadOf turnedTo acrossRay probeLine probed movedPoint afterMove afterRefined afterProbe oneRound onward rounds edgeEntry startOf fitStart fitFrom fitReported fitted fitAfter
 rows-hold = (refl, (refl, (refl, (refl, (refl, (refl, (refl, (refl, (refl, (refl, (refl, (refl, tt))))))))))))

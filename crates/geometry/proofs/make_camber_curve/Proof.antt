@@ -2,7 +2,7 @@
 use native.Mathlib.Omega.{arith}
 use Rattle.cleaning.proofs.Keeping.{made-refused}
 use Rattle.geometry.specs.Camber.{camberCurveBetween}
-use Rattle.geometry.proofs.Laws.{camber-passed}
+use Rattle.centers.proofs.Laws.{camber-passed}
 use borrow.Author.Needs.{needs}
 use Rattle.geometry.proofs.make_camber_curve.Statement.{statement}
 use Rattle.geometry.proofs.make_camber_curve.Tie as tie

@@ -1,7 +1,7 @@
 -- `from_line` asks 10 after the watched length. Assumes nothing.
 use borrow.Author.Needs.{needs}
 use Rattle.halving.specs.Halving.{fromLine}
-use Rattle.halving.specs.Ends.{halvedFrom}
+use Rattle.halving.specs.HalvedFrom.{halvedFrom}
 use Rattle.halving.proofs.from_line.Statement.{statement}
 use Rattle.halving.proofs.from_line.Tie as tie
 

@@ -1,6 +1,6 @@
 -- `halved_from` starts with the ends of the line. Assumes nothing.
 use borrow.Author.Needs.{needs}
-use Rattle.halving.specs.Ends.{halvedFrom}
+use Rattle.halving.specs.HalvedFrom.{halvedFrom}
 use Rattle.halving.proofs.halved_from.Statement.{statement}
 use Rattle.halving.proofs.halved_from.Tie as tie
 

@@ -5,7 +5,7 @@ use lib.Ieee.{Float}
 use lib.Ieee.Scale.{finite}
 use Rattle.errors.specs.Answer.{Answer, refusal, watched}
 use Rattle.errors.proofs.Laws.{told}
-use Rattle.root.specs.Sqrt.{sqrtOf}
+use Rattle.digits.specs.Sqrt.{sqrtOf}
 use Rattle.root.specs.Asked.{rootAsked}
 use borrow.Author.Needs.{needs}
 use Rattle.root.proofs.sqrt.Statement.{statement}

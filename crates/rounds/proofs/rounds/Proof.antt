@@ -9,7 +9,7 @@ use Rattle.runs.specs.Run.{under}
 use Rattle.inscribed.specs.Store.{circlesOf}
 use Rattle.inscribed.proofs.StoreLaws.{stored-again}
 use Rattle.rounds.specs.Rounds.{firstProgress, rounds}
-use Rattle.rounds.proofs.RoundLaws.{Left, ends-here, no-more, still, round-over, round-next}
+use Rattle.rounds.proofs.RoundsLaws.{Left, ends-here, no-more, still, round-over, round-next}
 use Rattle.rounds.proofs.rounds.Statement.{statement}
 use Rattle.rounds.proofs.rounds.Tie as tie
 

@@ -1,8 +1,8 @@
 -- `at_closest_to_point` gives the nearest point its edge's direction. Assumes nothing.
 use borrow.Author.Needs.{needs}
 use mathlib.Core.Path.{sym}
-use Rattle.stations.specs.Stations.{atClosest}
-use Rattle.queries.proofs.ClosestLaws.{nearest-below}
+use Rattle.stations.specs.Closest.{atClosest}
+use Rattle.closest.proofs.ClosestLaws.{nearest-below}
 use Rattle.stations.proofs.nearest.at_closest_to_point.Statement.{statement}
 use Rattle.stations.proofs.nearest.at_closest_to_point.Tie as tie
 

@@ -1,0 +1,35 @@
+-- The entry tests of `camber_curve` and `make_camber_curve`: "output rule and refusals too, but too few centres is 5". Assumes nothing.
+use mathlib.Core.Bool.{Bool, false, not, _&&_, _||_}
+use mathlib.Core.List.{List, [], _∷_}
+use Prim.Native.Nat.{ℕ, _+_, _*_, min}
+use lib.Dec.{ltb}
+use lib.Ieee.{Float}
+use Rattle.errors.specs.Answer.{Answer}
+use Rattle.points.specs.declared.Point2.{Point2}
+use Rattle.curve2.specs.Entry.{tested, inRange, badTolerance}
+use Rattle.inscribed.specs.Circles.{center}
+use Rattle.inscribed.specs.Store.{circlesOf, slots, badStore, badStoreCount}
+use Rattle.inscribed.specs.declared.Inscribed.{Inscribed}
+
+-- 2: "a centre or end point under a camber curve, has a coordinate beyond 1,000,000 in size"
+abbrev pub badPoint : Point2 → Bool
+badPoint p = not (inRange (p .x) && inRange (p .y))
+
+unfoldable pub anyBadCenter : List Inscribed → Bool
+anyBadCenter [] = false
+anyBadCenter (c ∷ cs) = badPoint (center c) || anyBadCenter cs
+
+-- "of a store only the circles in use, as far as it holds them, are tested"
+abbrev pub badCenters : List Float → ℕ → Bool
+badCenters ns count = anyBadCenter (circlesOf ns (min count (slots ns)))
+
+-- With `ends` end points beside the centres, of which one may be bad, and an output of `room` numbers. "Its tolerance is tested as a section's", the output is
+-- "shorter than its input plus two numbers" (4), and too few centres is 5.
+unfoldable pub camberEntry : List Float → ℕ → Float → Bool → ℕ → ℕ → Answer (Unit {0})
+camberEntry ns count tol badEnd ends room =
+    tested
+    ((2, badStore ns count || (badCenters ns count || badEnd))
+    ∷ (3, badTolerance tol)
+    ∷ (4, badStoreCount ns count || ltb room (2 * (count + ends) + 2))
+    ∷ (5, ltb (count + ends) 2)
+    ∷ [])

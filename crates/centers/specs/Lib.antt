@@ -1,0 +1,2 @@
+-- The entry tests of a camber curve.
+pub mod Centers

@@ -1,0 +1,2 @@
+-- The nearest point of a section to a point.
+pub mod Nearest

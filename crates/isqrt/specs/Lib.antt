@@ -1,0 +1,2 @@
+-- Roots of whole numbers.
+pub mod Whole

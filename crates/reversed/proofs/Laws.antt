@@ -1,0 +1,59 @@
+-- Laws of a section's points backwards: their numbers, and the points put so far. Assumes nothing.
+use mathlib.Core.Path.{_≡_, refl, _∙_}
+use mathlib.Core.Bool.{false, _||_}
+use mathlib.Core.List.{List, [], _∷_, _++_, reverse, reverse-cons}
+use Prim.Native.Nat.{ℕ, _+_, _*_, _%_, _≤_}
+use native.Mathlib.Omega.{arith}
+use lib.ListN.{length, drop, length-reverse}
+use lib.Ieee.{Float}
+use Rattle.errors.specs.Answer.{result}
+use Rattle.points.specs.declared.Point2.{Point2}
+use Rattle.curve2.specs.Section.{pointsOf, pointAt}
+use Rattle.curve2.specs.Entry.{badCount, badNumbers, badTolerance, notSpaced, sectionEntry}
+use Rattle.curve2.specs.declared.AlsoBad.{AlsoBad}
+use Rattle.curve2.proofs.Laws.{points-step, points-end}
+use Rattle.cleaning.specs.Cleaning.{numbersOf, placed}
+use Rattle.cleaning.specs.Keeping.{Held, put, holding}
+use Rattle.cleaning.proofs.Numbers.{points-length}
+use Rattle.cleaning.proofs.Keeping.{all-passed, put-holding}
+
+-- ---- the entry tests
+
+pub room-passed : (ns : List Float) (tol : Float) (also : AlsoBad) → sectionEntry ns tol also ≡ result tt → also .room ≡ false
+unfolding sectionEntry
+room-passed ns tol also e =
+    all-passed
+    ((1, badCount 4096 (length ns))
+    ∷ (2, badNumbers ns || also .number)
+    ∷ (3, badTolerance tol || also .tolerance)
+    ∷ (4, also .room)
+    ∷ (6, notSpaced ns tol)
+    ∷ [])
+    e
+    3
+
+-- ---- backwards
+
+pub backwards-length : (ns : List Float) → length ns % 2 ≡ 0 → length ns ≡ 2 * length (reverse (pointsOf ns))
+backwards-length ns h = omega (arith, points-length ns h, length-reverse (pointsOf ns))
+
+-- the points from i on, backwards
+abbrev pub backFrom : List Float → ℕ → List Point2
+backFrom ns i = reverse (pointsOf (drop i ns))
+
+pub back-none : (old ns : List Float) (i : ℕ) → length ns ≤ i → (0 ≡ length (backFrom ns i)) × (old ≡ placed (backFrom ns i) old)
+unfolding numbersOf
+back-none old ns i h = rw (points-end ns i h) (refl, refl)
+
+-- one more behind those that are there, the point in front of them
+module _ (ns : List Float) (i j : ℕ) (step : i ≡ j + 2) (fits : i ≤ length ns) where
+  back-step : backFrom ns j ≡ backFrom ns i ++ (pointAt ns j ∷ [])
+  back-step = rw (points-step ns j (omega arith), step) (reverse-cons (pointAt ns j) (pointsOf (drop (j + 2) ns)))
+
+  pub back-one : (old out : List Float) (count : ℕ) → 2 * count + 2 ≤ length old → count ≡ length (backFrom ns i) → out ≡ placed (backFrom ns i) old
+      → (h : Held) → h ≡ put count (pointAt ns j) out → h ≡ holding old (backFrom ns j)
+  back-one old out count room e inv h f = f ∙ rw (inv, e, back-step) (put-holding old (backFrom ns i) (pointAt ns j) (omega arith))
+
+pub put-count : (count : ℕ) (p : Point2) (out : List Float) (h : Held) → h ≡ put count p out → h .kept .count ≡ count + 1
+unfolding put
+put-count count p out h f = rw f

@@ -1,0 +1,2 @@
+-- A section's points backwards.
+pub mod Reversed

@@ -1,0 +1,3 @@
+-- One round of a fit into the gap of a section.
+pub mod Round
+pub mod Reached

@@ -1,0 +1,2 @@
+-- The check by the greatest radius.
+pub mod Tmax

@@ -1,0 +1,2 @@
+-- Stations, and those at the vertices of a section.
+pub mod Stations
