@@ -80,9 +80,9 @@ fn line_from_nothing() -> Line2 {
 
 // The circle in seven numbers from place i on, 9 at most.
 pub fn circle_from(args: &[f64], i: usize) -> Inscribed {
-    let mut seven = [0.0 / 0.0; 7];
+    let seven = [0.0 / 0.0; 7];
     if i < 10 {
-        if 16 <= args.len() {
+        if i + 7 <= args.len() {
             return inscribed::store::circle_at(&args[i..], 0);
         }
     }
