@@ -12,9 +12,9 @@ pub mod plain;
 
 pub const ARGS: u32 = 0;
 
-pub const OUT_MARK: usize = 16;
+const OUT_MARK: usize = 16;
 
-pub const STORE_MARK: usize = 17;
+const STORE_MARK: usize = 17;
 
 pub const SECTION: u32 = 100;
 
@@ -50,10 +50,6 @@ pub fn size_at(words: &[u64], i: usize, most: usize) -> usize
     n
 }
 
-fn set_size(words: &mut [u64], i: usize, size: u64) {
-    answers::tell(words, i, size);
-}
-
 // A length and a mark in words 1 and 2 of a line, and the numbers at the start behind them.
 fn set_output(line: &[u8], i: u32, count: u32, mark: usize, n: &mut [f64]) {
     let x = number(word(line, 2));
@@ -66,21 +62,21 @@ fn set_output(line: &[u8], i: u32, count: u32, mark: usize, n: &mut [f64]) {
 pub fn sets(op: u64, line: &[u8], n: &mut [f64], words: &mut [u64]) {
     let size = whole(word(line, 1));
     match op {
-        0 => set_size(words, 6, buffers::write(n, SECTION, line, 1)),
+        0 => answers::tell(words, 6, buffers::write(n, SECTION, line, 1)),
         1 => {
             buffers::row(n, SECTION, (size % 8195) as u32);
-            set_size(words, 6, size);
+            answers::tell(words, 6, size);
         }
         2 => {
             buffers::write(n, ARGS, line, 1);
         }
         3 => {
             set_output(line, STORE, 7700, STORE_MARK, n);
-            set_size(words, 7, size);
+            answers::tell(words, 7, size);
         }
         4 => {
             set_output(line, OUT, 8200, OUT_MARK, n);
-            set_size(words, 8, size);
+            answers::tell(words, 8, size);
         }
         _ => buffers::rank(n, STORE, (size % 1101) as u32),
     }
