@@ -6,6 +6,7 @@ use native.Mathlib.Omega.{arith}
 use lib.ListN.{length}
 use lib.Ieee.{Float}
 use Rattle.errors.specs.Answer.{Answer, result, refusal, _>>=_}
+use Rattle.errors.specs.Lists.{lastOf}
 use Rattle.errors.specs.declared.Refusal.{Refusal}
 use Rattle.line2.specs.declared.Line2.{Line2}
 use Rattle.curve2.specs.Entry.{HasPoints}
@@ -14,7 +15,6 @@ use Rattle.runs.specs.Run.{ended, Out, under}
 use Rattle.inscribed.specs.Store.{circleAt, circlesFrom, circlesOf, allNumbers, stored}
 use Rattle.inscribed.specs.declared.Inscribed.{Inscribed}
 use Rattle.inscribed.proofs.StoreLaws.{length-circles, circles-of-stored}
-use Rattle.inscribed.specs.Circles.{lastCircle}
 use Rattle.moves.specs.Machine.{State, refining, advancing, circlesIn, End, finished}
 use Rattle.moves.specs.Report.{Report, reported, listedEnd, listedRun}
 use Rattle.refine.specs.Refinement.{refineRun}
@@ -43,7 +43,7 @@ module _ (ns : List Float) (tol : Float) (slots limit : ℕ) (old : List Float) 
     pub fits : n ≤ slots
     pub within : u ≤ limit
     pub holds : store ≡ stored (first ∷ others) old
-    pub left : outcomeReport ns tol slots limit old (first ∷ others) (advanceOutcome ns tol (lastCircle first others) (under limit) u) ≡ target
+    pub left : outcomeReport ns tol slots limit old (first ∷ others) (advanceOutcome ns tol (lastOf first others) (under limit) u) ≡ target
 
   module _ (store : List Float) (n : ℕ) (next : Inscribed) (u : ℕ) (w : Waits store n next u) (r : Run) (after : List Float)
       (is : listedRun r after ≡ reported store (refineRun ns tol slots (under limit) (circlesOf store n) (next ∷ []) u)) where
@@ -108,7 +108,7 @@ module _ (ns : List Float) (tol : Float) (slots limit : ℕ) (old : List Float) 
       waits-ready = ready-of ds count-is store-is on
 
   module _ (store : List Float) (n u : ℕ) (is : Ready store n u) where
-    ready-last : circleAt store (n - 1) ≡ lastCircle (is .first) (is .others)
+    ready-last : circleAt store (n - 1) ≡ lastOf (is .first) (is .others)
     ready-last = last-stored store old n (is .first ∷ is .others) (is .first) (is .others) (is .holds) refl (sym (is .counted))
 
     module _ (a : Advanced) (said : listedAdvanced a ≡ advanceOutcome ns tol (circleAt store (n - 1)) (under limit) u) where

@@ -10,6 +10,7 @@ use lib.Dec.{ltb}
 use lib.ListN.{length}
 use lib.Ieee.{Float, lt}
 use Rattle.errors.specs.Answer.{Answer, result, refusal}
+use Rattle.errors.specs.Lists.{lastOf}
 use Rattle.surface2.specs.declared.SurfacePoint2.{SurfacePoint2}
 use Rattle.queries.specs.declared.Crossing.{Crossing}
 use Rattle.runs.specs.Run.{ends, pays, Ending, ended, spent, Out, under, whole}
@@ -19,7 +20,6 @@ use Rattle.runs.proofs.SequelLaws.{Sequel, sequel}
 use Rattle.inscribed.specs.Store.{stored}
 use Rattle.inscribed.specs.declared.Inscribed.{Inscribed}
 use Rattle.halving.specs.Halving.{fromCrossing}
-use Rattle.inscribed.specs.Circles.{lastCircle}
 use Rattle.moves.specs.Machine.{State, refining, advancing, over, circlesIn, End, finished, measure}
 use Rattle.moves.specs.Report.{Report, reported}
 use Rattle.refine.specs.Refinement.{refineStep, refineRun}
@@ -63,7 +63,7 @@ module _ (ns : List Float) (tol : Float) (slots limit : ℕ) (old : List Float) 
     cs = c₀ ∷ ds
 
     abbrev c : Inscribed
-    c = lastCircle c₀ ds
+    c = lastOf c₀ ds
 
     module _ (ray : SurfacePoint2) (is : lookAhead ns c ≡ result (along ray)) where
       step-at : (k : ℕ) → marchStep ns tol slots (advancing cs k) ≡ cond (lt (stepOf c k) tol) (ends finished) (pays (afterLine ns tol cs k (triedLine ns c ray k)))

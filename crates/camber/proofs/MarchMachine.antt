@@ -10,6 +10,7 @@ use lib.Dec.{leb, ltb}
 use lib.ListN.{length}
 use lib.Ieee.{Float, lt}
 use Rattle.errors.specs.Answer.{Answer, result, refusal}
+use Rattle.errors.specs.Lists.{lastOf}
 use Rattle.queries.specs.declared.Crossing.{Crossing}
 use Rattle.runs.specs.Run.{Move, ends, goes, pays, under, whole}
 use Rattle.runs.proofs.RunLaws.{Falls}
@@ -17,7 +18,6 @@ use Rattle.runs.proofs.LimitLaws.{Grows, run-holds, units-within}
 use Rattle.inscribed.specs.declared.Inscribed.{Inscribed}
 use Rattle.trial.specs.Trial.{trial}
 use Rattle.halving.specs.Halving.{fromCrossing}
-use Rattle.inscribed.specs.Circles.{lastCircle}
 use Rattle.moves.specs.Machine.{State, refining, advancing, over, circlesIn, End, finished, withRoom, afterRoom, afterTrial, measure}
 use Rattle.refine.specs.Refinement.{refineStep}
 use Rattle.refine.proofs.MachineLaws.{no-goes, no-pays, move-goes, move-pays, move-falls, Part, no-more, part-same, part-chain, move-part, Sound, move-sound, Fits, refine-fits-goes, refine-fits-pays}
@@ -74,7 +74,7 @@ unfolding marchStep
 march-falls ns tol slots (refining cs []) t = (λ p. let e : t ≡ advancing cs 0 = cc in rw e (unfold measure in omega arith), λ p. let z : _≡_ {A = ℕ} 0 1 = cc in absurd (omega arith))
 march-falls ns tol slots (refining cs (b ∷ ws)) t = move-falls ns tol slots cs b ws t
 march-falls ns tol slots (advancing [] k) t = (λ p. no-goes p, λ p. no-pays p)
-march-falls ns tol slots (advancing (c ∷ cs) k) t = (λ p. advance-goes ns tol slots (c ∷ cs) (lastCircle c cs) k (lookAhead ns (lastCircle c cs)) t p, λ p. advance-pays ns tol slots (c ∷ cs) (lastCircle c cs) k (lookAhead ns (lastCircle c cs)) t p .falls)
+march-falls ns tol slots (advancing (c ∷ cs) k) t = (λ p. advance-goes ns tol slots (c ∷ cs) (lastOf c cs) k (lookAhead ns (lastOf c cs)) t p, λ p. advance-pays ns tol slots (c ∷ cs) (lastOf c cs) k (lookAhead ns (lastOf c cs)) t p .falls)
 march-falls ns tol slots (over cs n) t = (λ p. no-goes p, λ p. no-pays p)
 
 -- ---- the list grows at its end
@@ -87,7 +87,7 @@ unfolding marchStep
 march-goes ns tol slots (refining cs []) t p = let e : t ≡ advancing cs 0 = cc in same-part (refining cs []) t (ap circlesIn e)
 march-goes ns tol slots (refining cs (b ∷ ws)) t p = move-part ns tol slots cs b ws t .0 p
 march-goes ns tol slots (advancing [] k) t p = no-goes p
-march-goes ns tol slots (advancing (c ∷ cs) k) t p = advance-goes ns tol slots (c ∷ cs) (lastCircle c cs) k (lookAhead ns (lastCircle c cs)) t p
+march-goes ns tol slots (advancing (c ∷ cs) k) t p = advance-goes ns tol slots (c ∷ cs) (lastOf c cs) k (lookAhead ns (lastOf c cs)) t p
 march-goes ns tol slots (over cs n) t p = no-goes p
 
 march-pays : (ns : List Float) (tol : Float) (slots : ℕ) (s t : State) → marchStep ns tol slots s ≡ pays t → Part s t
@@ -95,7 +95,7 @@ unfolding marchStep
 march-pays ns tol slots (refining cs []) t p = let z : _≡_ {A = ℕ} 0 1 = cc in absurd (omega arith)
 march-pays ns tol slots (refining cs (b ∷ ws)) t p = move-part ns tol slots cs b ws t .1 p
 march-pays ns tol slots (advancing [] k) t p = no-pays p
-march-pays ns tol slots (advancing (c ∷ cs) k) t p = same-part (advancing (c ∷ cs) k) t (advance-pays ns tol slots (c ∷ cs) (lastCircle c cs) k (lookAhead ns (lastCircle c cs)) t p .kept)
+march-pays ns tol slots (advancing (c ∷ cs) k) t p = same-part (advancing (c ∷ cs) k) t (advance-pays ns tol slots (c ∷ cs) (lastOf c cs) k (lookAhead ns (lastOf c cs)) t p .kept)
 march-pays ns tol slots (over cs n) t p = no-pays p
 
 pub march-grows : (ns : List Float) (tol : Float) (slots : ℕ) → Grows (marchStep ns tol slots) Part
@@ -112,7 +112,7 @@ module _ (ns : List Float) (tol : Float) (n slots : ℕ) where
   march-sound-goes (refining cs []) t p h = let e : t ≡ advancing cs 0 = cc in same-sound ns tol n (refining cs []) t (ap circlesIn e) h
   march-sound-goes (refining cs (b ∷ ws)) t p h = move-sound ns tol n slots cs b ws t h .0 p
   march-sound-goes (advancing [] k) t p h = no-goes p
-  march-sound-goes (advancing (c ∷ cs) k) t p h = advance-goes ns tol slots (c ∷ cs) (lastCircle c cs) k (lookAhead ns (lastCircle c cs)) t p
+  march-sound-goes (advancing (c ∷ cs) k) t p h = advance-goes ns tol slots (c ∷ cs) (lastOf c cs) k (lookAhead ns (lastOf c cs)) t p
   march-sound-goes (over cs m) t p h = no-goes p
 
   pub march-sound-pays : (s t : State) → marchStep ns tol slots s ≡ pays t → Sound ns tol n s → Sound ns tol n t
@@ -120,7 +120,7 @@ module _ (ns : List Float) (tol : Float) (n slots : ℕ) where
   march-sound-pays (refining cs []) t p h = let z : _≡_ {A = ℕ} 0 1 = cc in absurd (omega arith)
   march-sound-pays (refining cs (b ∷ ws)) t p h = move-sound ns tol n slots cs b ws t h .1 p
   march-sound-pays (advancing [] k) t p h = no-pays p
-  march-sound-pays (advancing (c ∷ cs) k) t p h = same-sound ns tol n (advancing (c ∷ cs) k) t (advance-pays ns tol slots (c ∷ cs) (lastCircle c cs) k (lookAhead ns (lastCircle c cs)) t p .kept) h
+  march-sound-pays (advancing (c ∷ cs) k) t p h = same-sound ns tol n (advancing (c ∷ cs) k) t (advance-pays ns tol slots (c ∷ cs) (lastOf c cs) k (lookAhead ns (lastOf c cs)) t p .kept) h
   march-sound-pays (over cs m) t p h = no-pays p
 
 -- ---- the list keeps to the slots
@@ -131,7 +131,7 @@ module _ (ns : List Float) (tol : Float) (slots : ℕ) where
   march-fits-goes (refining cs []) t p h = let e : t ≡ advancing cs 0 = cc in rw e h
   march-fits-goes (refining cs (b ∷ ws)) t p h = refine-fits-goes ns tol slots (refining cs (b ∷ ws)) t p h
   march-fits-goes (advancing [] k) t p h = no-goes p
-  march-fits-goes (advancing (c ∷ cs) k) t p h = advance-goes ns tol slots (c ∷ cs) (lastCircle c cs) k (lookAhead ns (lastCircle c cs)) t p
+  march-fits-goes (advancing (c ∷ cs) k) t p h = advance-goes ns tol slots (c ∷ cs) (lastOf c cs) k (lookAhead ns (lastOf c cs)) t p
   march-fits-goes (over cs m) t p h = no-goes p
 
   march-fits-pays : (s t : State) → marchStep ns tol slots s ≡ pays t → Fits ns tol slots s → Fits ns tol slots t
@@ -139,7 +139,7 @@ module _ (ns : List Float) (tol : Float) (slots : ℕ) where
   march-fits-pays (refining cs []) t p h = let z : _≡_ {A = ℕ} 0 1 = cc in absurd (omega arith)
   march-fits-pays (refining cs (b ∷ ws)) t p h = refine-fits-pays ns tol slots (refining cs (b ∷ ws)) t p h
   march-fits-pays (advancing [] k) t p h = no-pays p
-  march-fits-pays (advancing (c ∷ cs) k) t p h = rw (advance-pays ns tol slots (c ∷ cs) (lastCircle c cs) k (lookAhead ns (lastCircle c cs)) t p .kept) h
+  march-fits-pays (advancing (c ∷ cs) k) t p h = rw (advance-pays ns tol slots (c ∷ cs) (lastOf c cs) k (lookAhead ns (lastOf c cs)) t p .kept) h
   march-fits-pays (over cs m) t p h = no-pays p
 
   pub march-fits : (full : ℕ → Bool) (s : State) (u : ℕ) → Fits ns tol slots s → length (circlesIn (marchRun ns tol slots full s u .state)) ≤ slots
@@ -191,6 +191,6 @@ module _ (ns : List Float) (tol : Float) (slots : ℕ) where
   refines-pays (refining cs []) t h p = no-pays p
   refines-pays (refining cs (b ∷ ws)) t h p =
       let m = move-pays ns tol slots b ws cs t p in
-      rw (m .3) (after-refines cs b ws (trial ns tol (lastCircle (m .0) (m .1)) b))
+      rw (m .3) (after-refines cs b ws (trial ns tol (lastOf (m .0) (m .1)) b))
   refines-pays (advancing cs k) t h p = absurd h
   refines-pays (over cs m) t h p = no-pays p

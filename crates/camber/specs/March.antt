@@ -7,13 +7,13 @@ use lib.Dec.{ltb}
 use lib.ListN.{drop}
 use lib.Ieee.{Float, lt}
 use Rattle.errors.specs.Answer.{Answer, result, refusal}
+use Rattle.errors.specs.Lists.{lastOf}
 use Rattle.line2.specs.declared.Line2.{Line2}
 use Rattle.queries.specs.declared.Crossing.{Crossing}
 use Rattle.runs.specs.Run.{Move, ends, goes, pays, Out, under, never, whole}
 use Rattle.inscribed.specs.Store.{slots}
 use Rattle.inscribed.specs.declared.Inscribed.{Inscribed}
 use Rattle.halving.specs.Halving.{fromCrossing}
-use Rattle.inscribed.specs.Circles.{lastCircle}
 use Rattle.moves.specs.Machine.{State, refining, advancing, over, circlesIn, End, finished, refineMove, measure}
 use Rattle.moves.specs.Report.{Report, reported, refusedOnEntry}
 use Rattle.circles.specs.Asked.{tryAsked}
@@ -40,11 +40,11 @@ advanceMove ns tol cs c k (result (along ray)) = cond (lt (stepOf c k) tol) (end
 
 -- "when none waits, the advance from the last brings the next, the end or a refusal"
 unfoldable pub marchStep : List Float → Float → ℕ → State → Move State End
-unfolding refineMove advanceMove lastCircle
+unfolding refineMove advanceMove lastOf
 marchStep ns tol slots (refining cs []) = goes (advancing cs 0)
 marchStep ns tol slots (refining cs (b ∷ ws)) = refineMove ns tol slots cs b ws
 marchStep ns tol slots (advancing [] k) = ends finished
-marchStep ns tol slots (advancing (c ∷ cs) k) = advanceMove ns tol (c ∷ cs) (lastCircle c cs) k (lookAhead ns (lastCircle c cs))
+marchStep ns tol slots (advancing (c ∷ cs) k) = advanceMove ns tol (c ∷ cs) (lastOf c cs) k (lookAhead ns (lastOf c cs))
 marchStep ns tol slots (over cs n) = ends (refusal n)
 
 -- the march from a state on, with u units taken

@@ -11,13 +11,14 @@ use lib.ListN.{length, getD, take, drop, set, length-append, length-drop}
 use lib.Seq.{sets-eq, take-at, drop-append-add, drop-drop}
 use lib.Ieee.{Float, le}
 use Rattle.errors.specs.Answer.{Answer, result, refusal}
+use Rattle.errors.specs.Lists.{lastOf}
 use Rattle.errors.specs.Refusals.{numberOf}
 use Rattle.errors.specs.declared.Refusal.{Refusal}
 use Rattle.points.specs.declared.Point2.{Point2}
 use Rattle.curve2.specs.Section.{pointsOf, pointAt, plainDist}
 use Rattle.curve2.specs.Entry.{tested}
 use Rattle.curve2.proofs.Laws.{points-step, points-end}
-use Rattle.cleaning.specs.Cleaning.{kept, keptAfter, lastOf, endsMeet, forcedClosed, closing, numbersOf, placed, curveAnswer, outputAfter, Made}
+use Rattle.cleaning.specs.Cleaning.{kept, keptAfter, endsMeet, forcedClosed, closing, numbersOf, placed, curveAnswer, outputAfter, Made}
 use Rattle.cleaning.specs.Keeping.{Held, put, keep, keepAll, closeHeld, allNear, lastPoint, holding}
 use Rattle.cleaning.specs.declared.CurveAnswer.{CurveAnswer}
 use Rattle.cleaning.proofs.Numbers.{points-length, points-numbers, numbers-length, numbers-snoc, last-snoc}

@@ -9,12 +9,13 @@ use lib.Dec.{ltb, lit≤}
 use lib.ListN.{length}
 use lib.Ieee.{Float, le}
 use Rattle.errors.specs.Answer.{Answer, result, refusal, _>>=_}
+use Rattle.errors.specs.Lists.{lastOf}
 use Rattle.points.specs.Numbers.{f0}
 use Rattle.points.specs.declared.Point2.{Point2}
 use Rattle.curve2.specs.Section.{pointsOf, plainDist, nextLength}
 use Rattle.curve2.specs.Entry.{badCount, inRange, badNumbers, badTolerance, notSpacedFrom, IsSection}
 use Rattle.curve2.proofs.Laws.{count-even, count-least, count-most, has-points}
-use Rattle.cleaning.specs.Cleaning.{kept, keptAfter, lastOf, endsMeet, forcedClosed, closing, curveOf, cleaningEntry, cleaned, numbersOf}
+use Rattle.cleaning.specs.Cleaning.{kept, keptAfter, endsMeet, forcedClosed, closing, curveOf, cleaningEntry, cleaned, numbersOf}
 use Rattle.cleaning.specs.Curves.{crowded, notRisingFrom, IsCurve}
 use Rattle.cleaning.proofs.Numbers.{numbers-length, numbers-points, points-numbers}
 use Rattle.cleaning.proofs.Keeping.{all-passed, closing-count, kept-most}

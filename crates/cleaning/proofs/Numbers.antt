@@ -6,9 +6,10 @@ use native.Mathlib.Numerals.{add-one}
 use native.Mathlib.Omega.{arith}
 use lib.ListN.{length}
 use lib.Ieee.{Float, le}
+use Rattle.errors.specs.Lists.{lastOf}
 use Rattle.points.specs.declared.Point2.{Point2}
 use Rattle.curve2.specs.Section.{point, pointsOf, pointAt, plainDist}
-use Rattle.cleaning.specs.Cleaning.{numbersOf, lastOf, endsMeet}
+use Rattle.cleaning.specs.Cleaning.{numbersOf, endsMeet}
 
 pub numbers-length : (ps : List Point2) → length (numbersOf ps) ≡ 2 * length ps
 unfolding numbersOf

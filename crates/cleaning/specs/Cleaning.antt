@@ -7,6 +7,7 @@ use lib.Dec.{ltb}
 use lib.ListN.{length, drop}
 use lib.Ieee.{Float, le}
 use Rattle.errors.specs.Answer.{Answer, result, refusal, _>>=_}
+use Rattle.errors.specs.Lists.{lastOf}
 use Rattle.errors.specs.Refusals.{numberOf}
 use Rattle.points.specs.declared.Point2.{Point2}
 use Rattle.curve2.specs.Section.{pointsOf, plainDist}
@@ -25,11 +26,6 @@ unfoldable pub kept : Float → List Point2 → List Point2
 unfolding keptAfter
 kept tol [] = []
 kept tol (p ∷ ps) = p ∷ keptAfter tol p ps
-
--- the last of p and those after it
-unfoldable pub lastOf : Point2 → List Point2 → Point2
-lastOf p [] = p
-lastOf p (q ∷ ps) = lastOf q ps
 
 -- "closed means ends within the tolerance"
 unfoldable pub endsMeet : Float → List Point2 → Bool

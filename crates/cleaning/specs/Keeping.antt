@@ -4,9 +4,10 @@ use mathlib.Core.List.{List, [], _∷_}
 use Prim.Native.Nat.{ℕ, _+_, _*_}
 use lib.ListN.{length, set}
 use lib.Ieee.{Float, nan, le}
+use Rattle.errors.specs.Lists.{lastOf}
 use Rattle.points.specs.declared.Point2.{Point2}
 use Rattle.curve2.specs.Section.{point, pointAt, plainDist}
-use Rattle.cleaning.specs.Cleaning.{lastOf, placed}
+use Rattle.cleaning.specs.Cleaning.{placed}
 use Rattle.cleaning.specs.declared.Kept.{Kept}
 
 -- the points held so far, and the output

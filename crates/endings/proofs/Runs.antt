@@ -9,6 +9,7 @@ use lib.Dec.{leb, ltb}
 use lib.ListN.{length}
 use lib.Ieee.{Float, lt}
 use Rattle.errors.specs.Answer.{Answer, result, refusal}
+use Rattle.errors.specs.Lists.{lastOf}
 use Rattle.errors.specs.Refusals.{numberOf}
 use Rattle.queries.specs.declared.Crossing.{Crossing}
 use Rattle.inscribed.specs.declared.Inscribed.{Inscribed}
@@ -17,7 +18,6 @@ use Rattle.runs.specs.Run.{Move, ends, goes, pays, ended, spent, under, run, wh
 use Rattle.runs.proofs.LimitLaws.{run-holds, ended-step}
 use Rattle.halving.specs.Halving.{fromCrossing}
 use Rattle.trial.specs.Trial.{trial}
-use Rattle.inscribed.specs.Circles.{lastCircle}
 use Rattle.moves.specs.Machine.{State, refining, advancing, over, End, finished, withRoom, afterRoom, afterTrial, refineMove, measure}
 use Rattle.moves.specs.Report.{Report, reported, listedEnd, endNumber, listedRun}
 use Rattle.refine.specs.Refinement.{refineStep, Offer, refineEntry, afterEntry, refinement, refineOf}
@@ -76,7 +76,7 @@ module _ (ns : List Float) (tol : Float) (slots : ℕ) where
       go : (x : Bool) → CalmMove (cond x (ends (refusal 15)) (goes (refining (b ∷ []) ws)))
       go true = other 15 (λ e. omega (arith, e))
       go false = tt
-  move-calm (c ∷ cs) b ws = trial-calm slots (c ∷ cs) b ws (trial ns tol (lastCircle c cs) b) (trial-steps ns tol (lastCircle c cs) b)
+  move-calm (c ∷ cs) b ws = trial-calm slots (c ∷ cs) b ws (trial ns tol (lastOf c cs) b) (trial-steps ns tol (lastOf c cs) b)
 
   refine-calm : (s : State) → Calm s → CalmMove (refineStep ns tol slots s)
   unfolding refineStep
@@ -117,7 +117,7 @@ module _ (ns : List Float) (tol : Float) (slots : ℕ) where
   march-calm (refining cs []) h = tt
   march-calm (refining cs (b ∷ ws)) h = move-calm cs b ws
   march-calm (advancing [] k) h = good tt
-  march-calm (advancing (c ∷ cs) k) h = advance-calm (c ∷ cs) (lastCircle c cs) k (lookAhead ns (lastCircle c cs)) (ahead-steps ns (lastCircle c cs))
+  march-calm (advancing (c ∷ cs) k) h = advance-calm (c ∷ cs) (lastOf c cs) k (lookAhead ns (lastOf c cs)) (ahead-steps ns (lastOf c cs))
   march-calm (over cs n) h = other n h
 
 -- ---- the whole

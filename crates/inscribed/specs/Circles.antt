@@ -1,5 +1,4 @@
 -- A circle: centre x, y, radius, contact p0 x, y, contact p1 x, y. Assumes nothing.
-use mathlib.Core.List.{List, [], _∷_}
 use lib.Ieee.{Float}
 use Rattle.errors.specs.Answer.{Answer, result, refusal}
 use Rattle.errors.specs.Refusals.{numberOf}
@@ -40,10 +39,3 @@ reversedPoints c = inscribed (center c) (c .r) (contact1 c) (contact0 c)
 abbrev pub listedInscribed : InscribedAnswer → Answer Inscribed
 listedInscribed (InscribedAnswer.Value c) = result c
 listedInscribed (InscribedAnswer.Refused r) = refusal (numberOf r)
-
--- ---- lists
-
--- the last of c and those after it
-unfoldable pub lastCircle : Inscribed → List Inscribed → Inscribed
-lastCircle c [] = c
-lastCircle c (d ∷ ds) = lastCircle d ds

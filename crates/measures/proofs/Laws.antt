@@ -10,9 +10,9 @@ use lib.ListN.{length, getD}
 use lib.IntN.{pos}
 use lib.Ieee.{Float, lt, ofInt, binary64}
 use Rattle.errors.specs.Answer.{Answer, result, refusal, _>>=_}
+use Rattle.errors.specs.Lists.{lastOf}
 use Rattle.points.specs.Numbers.{_/f_, f0}
 use Rattle.inscribed.specs.Store.{circleAt, circlesFrom, circlesOf}
-use Rattle.inscribed.specs.Circles.{lastCircle}
 use Rattle.inscribed.specs.declared.Inscribed.{Inscribed}
 use Rattle.inscribed.proofs.StoreLaws.{length-circles}
 use Rattle.measures.specs.Lists.{frontAndBack, tmaxFrom, tmax, spacingAfter, spacingSum, averageSpacing}
@@ -27,8 +27,8 @@ circle-of-list ns k (suc n) (suc i) d h = let z : k + suc i ≡ suc k + i = omeg
 
 -- ---- both ends
 
-last-at : (ns : List Float) (k n : ℕ) → lastCircle (circleAt ns k) (circlesFrom ns (suc k) n) ≡ circleAt ns (k + n)
-unfolding lastCircle circlesFrom
+last-at : (ns : List Float) (k n : ℕ) → lastOf (circleAt ns k) (circlesFrom ns (suc k) n) ≡ circleAt ns (k + n)
+unfolding lastOf circlesFrom
 last-at ns k zero = rw (add-zero k)
 last-at ns k (suc n) = let z : k + suc n ≡ suc k + n = omega arith in rw z (last-at ns (suc k) n)
 

@@ -6,10 +6,11 @@ use lib.IntN.{pos}
 use lib.ListN.{length}
 use lib.Ieee.{Float, lt, ofInt, binary64}
 use Rattle.errors.specs.Answer.{Answer, result, refusal, watched, _>>=_}
+use Rattle.errors.specs.Lists.{lastOf}
 use Rattle.errors.specs.Refusals.{numberOf}
 use Rattle.points.specs.Numbers.{_+f_, _/f_, f0}
 use Rattle.points.specs.Points.{distOf}
-use Rattle.inscribed.specs.Circles.{center, lastCircle}
+use Rattle.inscribed.specs.Circles.{center}
 use Rattle.inscribed.specs.declared.Inscribed.{Inscribed}
 use Rattle.measures.specs.declared.FrontAndBack.{FrontAndBack}
 use Rattle.measures.specs.declared.FrontAndBackAnswer.{FrontAndBackAnswer}
@@ -18,9 +19,9 @@ use Rattle.measures.specs.declared.FrontAndBackAnswer.{FrontAndBackAnswe
 
 -- "the first and last inscribed circles, or an error if the collection is empty": 7; one circle is both
 unfoldable pub frontAndBack : List Inscribed → Answer FrontAndBack
-unfolding lastCircle
+unfolding lastOf
 frontAndBack [] = refusal 7
-frontAndBack (c ∷ cs) = result (record { front = c; back = lastCircle c cs })
+frontAndBack (c ∷ cs) = result (record { front = c; back = lastOf c cs })
 
 abbrev pub listedEnds : FrontAndBackAnswer → Answer FrontAndBack
 listedEnds (FrontAndBackAnswer.Value e) = result e

@@ -7,9 +7,9 @@ use lib.Dec.{leb}
 use lib.ListN.{length}
 use lib.Ieee.{Float}
 use Rattle.errors.specs.Answer.{Answer, result, refusal}
+use Rattle.errors.specs.Lists.{lastOf}
 use Rattle.runs.specs.Run.{Move, ends, goes, pays}
 use Rattle.trial.specs.Trial.{trial}
-use Rattle.inscribed.specs.Circles.{lastCircle}
 use Rattle.inscribed.specs.declared.Inscribed.{Inscribed}
 
 -- "it holds the list, at first the old circles, the waiting circles, and the units". Refining, with those that wait, the newest first;
@@ -48,9 +48,9 @@ afterTrial slots cs b ws r = afterRoom cs b ws (withRoom slots (length cs) (suc 
 
 -- "While any waits, the newest is tried against the *current* last. An empty list accepts it without a unit, or 15 if the store has no slot. Else comes a unit, or 14 at the limit, then the trial, which may refuse."
 unfoldable pub refineMove : List Float → Float → ℕ → List Inscribed → Inscribed → List Inscribed → Move State End
-unfolding afterTrial lastCircle
+unfolding afterTrial lastOf
 refineMove ns tol slots [] b ws = cond (leb slots 0) (ends (refusal 15)) (goes (refining (b ∷ []) ws))
-refineMove ns tol slots (c ∷ cs) b ws = pays (afterTrial slots (c ∷ cs) b ws (trial ns tol (lastCircle c cs) b))
+refineMove ns tol slots (c ∷ cs) b ws = pays (afterTrial slots (c ∷ cs) b ws (trial ns tol (lastOf c cs) b))
 
 -- The measure that falls at each move. An accepted circle counts for more than all that can wait or be tried before the next one.
 abbrev pub waitingLeft : List Inscribed → ℕ

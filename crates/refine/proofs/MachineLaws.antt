@@ -12,12 +12,12 @@ use lib.ListN.{length, drop, length-append}
 use lib.Seq.{drop-append-le}
 use lib.Ieee.{Float}
 use Rattle.errors.specs.Answer.{Answer, result, refusal}
+use Rattle.errors.specs.Lists.{lastOf}
 use Rattle.runs.specs.Run.{Move, ends, goes, pays}
 use Rattle.runs.proofs.RunLaws.{Falls}
 use Rattle.runs.proofs.LimitLaws.{Grows}
 use Rattle.trial.specs.Trial.{trial}
 use Rattle.inscribed.specs.declared.Inscribed.{Inscribed}
-use Rattle.inscribed.specs.Circles.{lastCircle}
 use Rattle.moves.specs.Machine.{State, refining, advancing, over, circlesIn, End, withRoom, afterRoom, afterTrial, refineMove, waitingLeft, measure}
 use Rattle.refine.specs.Refinement.{refineStep}
 use Rattle.refine.specs.Law.{Settled}
@@ -50,12 +50,12 @@ module _ (ns : List Float) (tol : Float) (slots : ℕ) (b : Inscribed) (ws : Lis
 
   -- with one: the trial against the last
   pub move-pays : (cs : List Inscribed) (t : State) → refineMove ns tol slots cs b ws ≡ pays t
-      → (c : Inscribed) × (ds : List Inscribed) × (cs ≡ c ∷ ds) × (t ≡ afterTrial slots cs b ws (trial ns tol (lastCircle c ds) b))
+      → (c : Inscribed) × (ds : List Inscribed) × (cs ≡ c ∷ ds) × (t ≡ afterTrial slots cs b ws (trial ns tol (lastOf c ds) b))
   unfolding refineMove
   move-pays [] t p = go (leb slots 0) p
     where
       go : (x : Bool) → cond {A = Move State End} x (ends (refusal 15)) (goes (refining (b ∷ []) ws)) ≡ pays t
-          → (c : Inscribed) × (ds : List Inscribed) × (_≡_ {A = List Inscribed} [] (c ∷ ds)) × (t ≡ afterTrial slots [] b ws (trial ns tol (lastCircle c ds) b))
+          → (c : Inscribed) × (ds : List Inscribed) × (_≡_ {A = List Inscribed} [] (c ∷ ds)) × (t ≡ afterTrial slots [] b ws (trial ns tol (lastOf c ds) b))
       go true q = no-pays q
       go false q = goes-no-pays q
   move-pays (c ∷ cs) t p = (c, cs, refl, cc)
@@ -153,19 +153,19 @@ refine-grows ns tol slots = record { same = part-same; chain = part-chain; goes-
 
 -- ---- no pair would be refined again
 
-settled-more : (ns : List Float) (tol : Float) (a : Inscribed) (cs : List Inscribed) (b : Inscribed) → Settled ns tol (a ∷ cs) → trial ns tol (lastCircle a cs) b ≡ result none → Settled ns tol (a ∷ (cs ++ (b ∷ [])))
-unfolding lastCircle
+settled-more : (ns : List Float) (tol : Float) (a : Inscribed) (cs : List Inscribed) (b : Inscribed) → Settled ns tol (a ∷ cs) → trial ns tol (lastOf a cs) b ≡ result none → Settled ns tol (a ∷ (cs ++ (b ∷ [])))
+unfolding lastOf
 settled-more ns tol a [] b s e = (e, tt)
 settled-more ns tol a (d ∷ cs) b s e = (s .0, settled-more ns tol d cs b (s .1) e)
 
-last-drop : (c : Inscribed) (cs : List Inscribed) (j : ℕ) → j ≤ length cs → (a : Inscribed) × (ds : List Inscribed) × (drop j (c ∷ cs) ≡ a ∷ ds) × (lastCircle a ds ≡ lastCircle c cs)
-unfolding lastCircle
+last-drop : (c : Inscribed) (cs : List Inscribed) (j : ℕ) → j ≤ length cs → (a : Inscribed) × (ds : List Inscribed) × (drop j (c ∷ cs) ≡ a ∷ ds) × (lastOf a ds ≡ lastOf c cs)
+unfolding lastOf
 last-drop c cs zero h = (c, cs, refl, refl)
 last-drop c [] (suc j) h = absurd (omega arith)
 last-drop c (d ∷ cs) (suc j) h = last-drop d cs j (omega arith)
 
 -- from the circle at j on, which is in the list
-settled-accepted : (ns : List Float) (tol : Float) (j : ℕ) (c : Inscribed) (cs : List Inscribed) (b : Inscribed) → j ≤ length cs → Settled ns tol (drop j (c ∷ cs)) → trial ns tol (lastCircle c cs) b ≡ result none
+settled-accepted : (ns : List Float) (tol : Float) (j : ℕ) (c : Inscribed) (cs : List Inscribed) (b : Inscribed) → j ≤ length cs → Settled ns tol (drop j (c ∷ cs)) → trial ns tol (lastOf c cs) b ≡ result none
     → Settled ns tol (drop j ((c ∷ cs) ++ (b ∷ [])))
 settled-accepted ns tol j c cs b h s e =
     let l = last-drop c cs j h in
@@ -178,7 +178,7 @@ pub record Sound (ns : List Float) (tol : Float) (k : ℕ) (s : State) : Type 0 
   pub settled : Settled ns tol (drop (k - 1) (circlesIn s))
 
 module _ (ns : List Float) (tol : Float) (k slots : ℕ) where
-  after-sound : (c : Inscribed) (cs : List Inscribed) (b : Inscribed) (ws : List Inscribed) (r : Answer (Option Inscribed)) → trial ns tol (lastCircle c cs) b ≡ r → Sound ns tol k (refining (c ∷ cs) (b ∷ ws))
+  after-sound : (c : Inscribed) (cs : List Inscribed) (b : Inscribed) (ws : List Inscribed) (r : Answer (Option Inscribed)) → trial ns tol (lastOf c cs) b ≡ r → Sound ns tol k (refining (c ∷ cs) (b ∷ ws))
       → Sound ns tol k (afterTrial slots (c ∷ cs) b ws r)
   unfolding afterTrial withRoom
   after-sound c cs b ws (refusal n) e h = record { held = h .held; settled = h .settled }
@@ -200,7 +200,7 @@ module _ (ns : List Float) (tol : Float) (k slots : ℕ) where
     λ p. let m = move-pays ns tol slots b ws cs t p in tried (m .0) (m .1) (m .2) (m .3),
   )
     where
-      tried : (c : Inscribed) (ds : List Inscribed) → cs ≡ c ∷ ds → t ≡ afterTrial slots cs b ws (trial ns tol (lastCircle c ds) b) → Sound ns tol k t
+      tried : (c : Inscribed) (ds : List Inscribed) → cs ≡ c ∷ ds → t ≡ afterTrial slots cs b ws (trial ns tol (lastOf c ds) b) → Sound ns tol k t
       tried c ds e f = rw (f, e) (after-sound c ds b ws _ refl (rw e at h))
 
       one : k ≤ 0 → Sound ns tol k (refining (b ∷ []) ws)
@@ -282,10 +282,10 @@ module _ (ns : List Float) (tol : Float) (k slots : ℕ) (o : Inscribed) where
       let m = move-pays ns tol slots b ws cs t p in
       tried (m .0) (m .1) (m .2) (m .3)
     where
-      tried : (c : Inscribed) (ds : List Inscribed) → cs ≡ c ∷ ds → t ≡ afterTrial slots cs b ws (trial ns tol (lastCircle c ds) b) → Kept t
+      tried : (c : Inscribed) (ds : List Inscribed) → cs ≡ c ∷ ds → t ≡ afterTrial slots cs b ws (trial ns tol (lastOf c ds) b) → Kept t
       tried c ds e f =
-          let q = after-part slots cs b ws (trial ns tol (lastCircle c ds) b) in
-          rw f (omega (arith, ap length (q .1), length-append cs (q .0), h .0), rw e (after-offered c ds b ws (trial ns tol (lastCircle c ds) b) (rw e at (h .0)) (rw e at (h .1))))
+          let q = after-part slots cs b ws (trial ns tol (lastOf c ds) b) in
+          rw f (omega (arith, ap length (q .1), length-append cs (q .0), h .0), rw e (after-offered c ds b ws (trial ns tol (lastOf c ds) b) (rw e at (h .0)) (rw e at (h .1))))
   refine-offered-pays (advancing cs j) t p h = no-pays p
   refine-offered-pays (over cs n) t p h = no-pays p
 
@@ -319,6 +319,6 @@ module _ (ns : List Float) (tol : Float) (slots : ℕ) where
   pub refine-fits-pays : (s t : State) → refineStep ns tol slots s ≡ pays t → Fits s → Fits t
   unfolding refineStep
   refine-fits-pays (refining cs []) t p h = no-pays p
-  refine-fits-pays (refining cs (b ∷ ws)) t p h = let m = move-pays ns tol slots b ws cs t p in rw (m .3) (after-fits cs b ws (trial ns tol (lastCircle (m .0) (m .1)) b) h)
+  refine-fits-pays (refining cs (b ∷ ws)) t p h = let m = move-pays ns tol slots b ws cs t p in rw (m .3) (after-fits cs b ws (trial ns tol (lastOf (m .0) (m .1)) b) h)
   refine-fits-pays (advancing cs k) t p h = no-pays p
   refine-fits-pays (over cs n) t p h = no-pays p

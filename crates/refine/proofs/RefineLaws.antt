@@ -12,6 +12,7 @@ use lib.ListN.{length, getD, set, length-append}
 use lib.Seq.{getD-set-same, getD-set-other}
 use lib.Ieee.{Float, nan}
 use Rattle.errors.specs.Answer.{Answer, result, refusal}
+use Rattle.errors.specs.Lists.{lastOf}
 use Rattle.runs.specs.Run.{Move, pays, Ending, ended, spent, Out, out, under, whole}
 use Rattle.runs.proofs.RunLaws.{whole-ends, whole-goes, whole-pays, whole-spent}
 use Rattle.inscribed.specs.Store.{circleAt, circlesOf, stored}
@@ -19,7 +20,6 @@ use Rattle.inscribed.specs.Parts.{withCircle}
 use Rattle.inscribed.specs.declared.Inscribed.{Inscribed}
 use Rattle.inscribed.proofs.StoreLaws.{stored-push, stored-again, circle-of-stored, length-circles}
 use Rattle.trial.specs.Trial.{trial}
-use Rattle.inscribed.specs.Circles.{lastCircle}
 use Rattle.moves.specs.Machine.{State, refining, over, circlesIn, End, finished, withRoom, afterRoom, afterTrial, refineMove, measure}
 use Rattle.moves.specs.Report.{Report, reported}
 use Rattle.refine.specs.Refinement.{refineStep, refineRun}
@@ -53,12 +53,12 @@ unfolding stack
 stack-top ws zero h = absurd (omega arith)
 stack-top ws (suc w) h = let e : suc w - 1 ≡ w = omega arith in rw e
 
-last-at : (c : Inscribed) (cs : List Inscribed) → getD (c ∷ cs) (length cs) noCircle ≡ lastCircle c cs
-unfolding lastCircle
+last-at : (c : Inscribed) (cs : List Inscribed) → getD (c ∷ cs) (length cs) noCircle ≡ lastOf c cs
+unfolding lastOf
 last-at c [] = refl
 last-at c (d ∷ cs) = last-at d cs
 
-pub last-stored : (store old : List Float) (n : ℕ) (cs : List Inscribed) (c : Inscribed) (ds : List Inscribed) → store ≡ stored cs old → cs ≡ c ∷ ds → length cs ≡ n → circleAt store (n - 1) ≡ lastCircle c ds
+pub last-stored : (store old : List Float) (n : ℕ) (cs : List Inscribed) (c : Inscribed) (ds : List Inscribed) → store ≡ stored cs old → cs ≡ c ∷ ds → length cs ≡ n → circleAt store (n - 1) ≡ lastOf c ds
 last-stored store old n cs c ds h e l =
     let m : n - 1 ≡ length ds = omega (arith, l, ap length e) in
     rw (h, m) (circle-of-stored cs old (length ds) noCircle (omega (arith, ap length e)) ∙ ap (λ (x : List Inscribed). getD x (length ds) noCircle) e ∙ last-at c ds)
@@ -131,11 +131,11 @@ module _ (ns : List Float) (tol : Float) (slots limit : ℕ) (old : List Float) 
       whole-list : l .cs ≡ first ∷ others
       whole-list = split-list (l .cs) (l .long) .2
 
-      loop-last : circleAt store (n - 1) ≡ lastCircle first others
+      loop-last : circleAt store (n - 1) ≡ lastOf first others
       loop-last = last-stored store old n (l .cs) first others (l .holds) whole-list (l .long)
 
       abbrev result-of : Answer (Option Inscribed)
-      result-of = trial ns tol (lastCircle first others) b
+      result-of = trial ns tol (lastOf first others) b
 
       -- the trial that the code makes
       abbrev pub asked : Answer (Option Inscribed)
@@ -144,7 +144,7 @@ module _ (ns : List Float) (tol : Float) (slots limit : ℕ) (old : List Float) 
       paying : step (refining (l .cs) (b ∷ ws)) ≡ pays (afterTrial slots (l .cs) b ws result-of)
       paying = go (l .cs) first others whole-list
         where
-          go : (cs : List Inscribed) (c : Inscribed) (ds : List Inscribed) → cs ≡ c ∷ ds → step (refining cs (b ∷ ws)) ≡ pays (afterTrial slots cs b ws (trial ns tol (lastCircle c ds) b))
+          go : (cs : List Inscribed) (c : Inscribed) (ds : List Inscribed) → cs ≡ c ∷ ds → step (refining cs (b ∷ ws)) ≡ pays (afterTrial slots cs b ws (trial ns tol (lastOf c ds) b))
           go cs c ds e = rw e (unfold refineStep refineMove in refl)
 
       pub loop-spent : limit ≤ u → report spent n u store ≡ reported old target

@@ -6,6 +6,7 @@ use Prim.Native.Nat.{ℕ, zero, suc}
 use lib.Count.{trailingZeros}
 use lib.Ieee.{Float, binary64, ofBits, ofFields, odd, units, round, size, span, climb, neg, sum, add, sub, mul, div, lt, eq, le}
 use Rattle.errors.specs.Answer.{Answer, result, refusal, _>>=_}
+use Rattle.errors.specs.Lists.{lastOf}
 use Rattle.isqrt.specs.Whole.{rootDigits, wholeRoot}
 use Rattle.digits.specs.Sqrt.{rootOfUnits, sqrtOf}
 use Rattle.root.specs.Asked.{rootAsked}
@@ -16,7 +17,7 @@ use Rattle.line2.specs.Intersection.{intersectionParam}
 use Rattle.line2.specs.declared.Line2.{Line2}
 use Rattle.curve2.specs.Section.{point, pointsOf, plainDist, isClosed, wholeFrom}
 use Rattle.curve2.specs.Entry.{badNumbers, notSpacedFrom, sectionEntry}
-use Rattle.cleaning.specs.Cleaning.{keptAfter, kept, lastOf, endsMeet, forcedClosed, curveOf, cleaned}
+use Rattle.cleaning.specs.Cleaning.{keptAfter, kept, endsMeet, forcedClosed, curveOf, cleaned}
 use Rattle.queries.specs.Edges.{edgesOf}
 use Rattle.queries.specs.Hits.{edgeHit, hitsFrom, inserted, sortedInto, droppedAfter, dropped}
 use Rattle.queries.specs.Crossing.{spanOf, spanned, crossed, crossingWith}
@@ -25,7 +26,7 @@ use Rattle.closest.specs.Nearest.{closestOnAll, leastOf, leastOfAll, nearestOf}
 use Rattle.segment2.specs.Closest.{fractionOn, heldPoint, measuredTo, closestOnEdge}
 use Rattle.vertices.specs.Stations.{edgeDirection, meanDirection, vertexDirection, atVertex, station}
 use Rattle.stations.specs.Along.{insideEdge, atLengthFrom, atLength}
-use Rattle.inscribed.specs.Circles.{inscribed, lastCircle}
+use Rattle.inscribed.specs.Circles.{inscribed}
 use Rattle.bisection.specs.Bisection.{Ends, halved, between, isWide, halving}
 use Rattle.halving.specs.Halving.{resolveTol, firstEnds, fromLine, fromCrossing}
 use Rattle.sections.specs.Asked.{atLengthAsked, crossingAsked, joinedAsked}
@@ -258,6 +259,6 @@ unfolding table P1 P2 P3 P4 P5 P6 P7 P8 P9 P10 P11 P12 tests R U four two line c
     edgesOf edgeHit hitsFrom inserted sortedInto droppedAfter dropped spanOf spanned crossed crossingWith edgeDirection meanDirection vertexDirection atVertex insideEdge atLengthFrom atLength atLengthAsked crossingAsked joinedAsked
     closestOnAll leastOf leastOfAll nearestOf fractionOn heldPoint measuredTo closestOnEdge lineProjection distOf halved between halving fromLine
     camberPoint numbersOf circleFrom circlesFrom allNumbers stored badCircle anyBad midPointOf lineNormalized rayNormalized rayProjection atDistance shiftedRay halfwayRay circleOn tryInscribed judged trial
-    next run whole lastCircle withRoom afterTrial refineMove measure refineStep tmaxFrom tmax storeEntry tmaxAsked frontAndBack centerDot lessForward dirFwd voteOf votesFrom dirUpper orientEntry fwdAsked upperAsked lastPair middleLine facedLine clipLine endCamberRay
+    next run whole withRoom afterTrial refineMove measure refineStep tmaxFrom tmax storeEntry tmaxAsked frontAndBack centerDot lessForward dirFwd voteOf votesFrom dirUpper orientEntry fwdAsked upperAsked lastPair middleLine facedLine clipLine endCamberRay
     gapOf capPoint capIntersection aheadOf turnedTo acrossRay probeLine probed movedPoint afterMove afterRefined afterProbe oneRound onward rounds edgeEntry startOf fitStart fitFrom fitReported fitted fitAfter
 rows-hold = (refl, (refl, (refl, (refl, (refl, (refl, (refl, (refl, (refl, (refl, (refl, (refl, tt))))))))))))
