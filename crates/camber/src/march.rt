@@ -77,13 +77,6 @@ pub fn march(
             let slots = inscribed::store::slots_up_to(1024, store.len());
             march_from(section, tol, store, slots, c, limit, 0)
         }
-        InscribedAnswer::Refused(r) => {
-            let end = RunEnd::Refused(r);
-            Run {
-                end,
-                count: 0,
-                units: 0,
-            }
-        }
+        InscribedAnswer::Refused(r) => moves::refused(r, 0, 0),
     }
 }

@@ -35,6 +35,22 @@ pub fn end_number(end: RunEnd) -> u32
     }
 }
 
+// A run that is finished.
+pub fn finished(count: usize, units: u32) -> Run
+    ensures { λ x. ⌜ x ≡ record { end = RunEnd.Finished; count = count; units = units } ⌝ }
+{
+    let end = RunEnd::Finished;
+    Run { end, count, units }
+}
+
+// A run that is spent.
+pub fn spent(count: usize, units: u32) -> Run
+    ensures { λ x. ⌜ x ≡ record { end = RunEnd.Spent; count = count; units = units } ⌝ }
+{
+    let end = RunEnd::Spent;
+    Run { end, count, units }
+}
+
 // A run that ends in a refusal.
 pub fn refused(r: Refusal, count: usize, units: u32) -> Run
     ensures { λ x. ⌜ x ≡ record { end = RunEnd.Refused r; count = count; units = units } ⌝ }

@@ -2,7 +2,6 @@
 use errors::Refusal;
 use inscribed::Inscribed;
 use moves::Run;
-use moves::RunEnd;
 use trial::TriedAnswer;
 ghost use mathlib.Core.Path.{_≡_};
 ghost use mathlib.Core.List.{[], _∷_};
@@ -35,12 +34,7 @@ fn refine_behind(
     let mut u = units;
     while 0 < w {
         if limit <= u {
-            let end = RunEnd::Spent;
-            return Run {
-                end,
-                count: n,
-                units: u,
-            };
+            return moves::spent(n, u);
         }
         let t = w - 1;
         let top = waiting[t];
@@ -64,12 +58,7 @@ fn refine_behind(
             }
         }
     }
-    let end = RunEnd::Finished;
-    Run {
-        end,
-        count: n,
-        units: u,
-    }
+    moves::finished(n, u)
 }
 
 // Offers a circle to the circles in a store of a checked section. The store has room for `slots` circles and holds `count`;
@@ -95,10 +84,5 @@ pub fn refine(
         return moves::refused(Refusal::StoreFull, count, units);
     }
     inscribed::store::put_circle(store, 0, circle);
-    let end = RunEnd::Finished;
-    Run {
-        end,
-        count: 1,
-        units,
-    }
+    moves::finished(1, units)
 }

@@ -25,12 +25,15 @@ returns-2 c = let e : c .before .before .before .before .before .args .count ≡
 put-circle-requires : tie.Need-put-circle-requires
 put-circle-requires c κs = search needs
 
+finished-requires : tie.Need-finished-requires
+finished-requires c κs = search needs
+
 same-length-2 : tie.Need-same-length-2
 same-length-2 c = search needs
 
 returns-3 : tie.Need-returns-3
-returns-3 c = let e : c .before .before .before .before .before .before .before .before .args .count ≡ 0 = omega arith in
-    rw (c .before .before .put-circle .ensures, e) (empty-accepted _ _ _ _ _ _ _ (omega arith) (c .before .before .before .before .if2 .left))
+returns-3 c = let e : c .before .before .before .before .before .before .before .before .before .args .count ≡ 0 = omega arith in
+    rw (c .finished .ensures, c .before .before .before .put-circle .ensures, e) (empty-accepted _ _ _ _ _ _ _ (omega arith) (c .before .before .before .before .before .if2 .left))
 
 pub refine-spec : {M : Type 1} → statement M
 refine-spec =
@@ -42,5 +45,6 @@ refine-spec =
     refused-requires
     returns-2
     put-circle-requires
+    finished-requires
     same-length-2
     returns-3)

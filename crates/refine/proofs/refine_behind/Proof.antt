@@ -20,13 +20,17 @@ abbrev μ-loop : tie.MeasureT-loop
 loop-holds : tie.Need-loop-holds Inv-loop μ-loop
 loop-holds c = (omega arith, omega arith, omega arith, omega arith, refl, refl, loop-start _ _ _ _ _ _ _ _ (omega arith) (omega arith))
 
+spent-requires : tie.Need-spent-requires Inv-loop μ-loop
+spent-requires c κs = search needs
+
 same-length : tie.Need-same-length Inv-loop μ-loop
 same-length c = omega arith
 
 returns : tie.Need-returns Inv-loop μ-loop
 unfolding stack
-returns c = let at = c .before .before .loop in
-    loop-spent _ _ _ _ _ _ _ _ _ _ _ (rw (stack-top (at .waiting) (at .w) (c .before .loop-test .taken)) at (at .inv .6)) (λ e. omega arith) (c .if1 .taken)
+returns c = let at = c .before .before .before .loop in
+    rw (c .spent .ensures)
+    (loop-spent _ _ _ _ _ _ _ _ _ _ _ (rw (stack-top (at .waiting) (at .w) (c .before .before .loop-test .taken)) at (at .inv .6)) (λ e. omega arith) (c .before .if1 .taken))
 
 sub-t : tie.Need-sub-t Inv-loop μ-loop
 sub-t c = omega arith
@@ -117,14 +121,17 @@ loop-again-2 c = let at = c .before .before .before .before .before .before .bef
           (loop-accepted _ _ _ _ _ _ _ _ _ _ _ (rw (stack-top (at .waiting) (at .w) (c .before .before .before .before .before .before .before .before .before .before .before .loop-test .taken)) at (at .inv .6)) (λ e. omega arith) (omega arith) _ (omega (arith, length-stack (at .waiting) (at .w - 1))) (sym (rw (c .before .before .before .before .enum-told .given .1, c .before .before .before .before .before .before .before .circle-at .ensures) at (c .before .before .before .before .before .before .tried .ensures)))),
     )
 
+finished-requires : tie.Need-finished-requires Inv-loop μ-loop
+finished-requires c κs = search needs
+
 same-length-3 : tie.Need-same-length-3 Inv-loop μ-loop
 same-length-3 c = omega arith
 
 returns-3 : tie.Need-returns-3 Inv-loop μ-loop
 unfolding stack
-returns-3 c = let at = c .before .loop in
+returns-3 c = let at = c .before .before .loop in
     let e : at .w ≡ 0 = omega arith in
-    loop-finished _ _ _ _ _ _ _ _ _ (rw e at (at .inv .6))
+    rw (c .finished .ensures) (loop-finished _ _ _ _ _ _ _ _ _ (rw e at (at .inv .6)))
 
 pub refine-behind-spec : {M : Type 1} → statement M
 refine-behind-spec =
@@ -133,6 +140,7 @@ refine-behind-spec =
     Inv-loop
     μ-loop
     loop-holds
+    spent-requires
     same-length
     returns
     sub-t
@@ -157,5 +165,6 @@ refine-behind-spec =
     add-n
     loop-less-2
     loop-again-2
+    finished-requires
     same-length-3
     returns-3)

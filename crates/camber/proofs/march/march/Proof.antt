@@ -22,6 +22,9 @@ march-from-requires c κs = (asked-points _ _ _ _ _ (sym (rw (c .before .before 
 enum-known-r : tie.Need-enum-known-r
 enum-known-r c = search needs
 
+refused-requires : tie.Need-refused-requires
+refused-requires c κs = search needs
+
 same-length : tie.Need-same-length
 same-length c = search needs
 
@@ -31,7 +34,7 @@ returns c = rw (← (rw (c .before .before .before .before .before .before .c .g
 
 returns-2 : tie.Need-returns-2
 unfolding march
-returns-2 c = rw (← (rw (c .before .r .given .1) at (c .before .before .before .try-inscribed .ensures)))
+returns-2 c = rw (c .refused .ensures, ← (rw (c .before .before .r .given .1) at (c .before .before .before .before .try-inscribed .ensures)))
 
 pub march-spec : {M : Type 1} → statement M
 march-spec =
@@ -42,6 +45,7 @@ march-spec =
     slots-up-to-requires
     march-from-requires
     enum-known-r
+    refused-requires
     same-length
     returns
     returns-2)
