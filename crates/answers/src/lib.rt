@@ -11,7 +11,7 @@ use moves::Run;
 use points::Point2;
 use points::Vector2;
 use sections::BoolAnswer;
-use trial::TriedAnswer;
+use tryline::TriedAnswer;
 use vertices::StationAnswer;
 
 pub fn number_at(numbers: &[f64], i: usize) -> f64 {

@@ -39,7 +39,7 @@ pub extern "C" fn bench_roots_by_digits(xs: &[f64]) -> f64 {
 // The sum of the squared distances of points from a section. A section without whole points has none.
 #[no_mangle]
 pub extern "C" fn bench_nearest(section: &[f64], ps: &[f64]) -> f64 {
-    if curve2::is_bad_count(4096, section.len()) {
+    if entry::is_bad_count(4096, section.len()) {
         return 0.0;
     }
     let mut sum: f64 = 0.0;
@@ -67,7 +67,7 @@ fn square_from(section: &[f64], x: f64, y: f64) -> f64
 // The sum of the crossings' widths of lines, each four numbers, with a section.
 #[no_mangle]
 pub extern "C" fn bench_crossings(section: &[f64], lines: &[f64]) -> f64 {
-    if curve2::is_bad_count(4096, section.len()) {
+    if entry::is_bad_count(4096, section.len()) {
         return 0.0;
     }
     let mut sum: f64 = 0.0;

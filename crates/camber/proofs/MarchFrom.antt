@@ -5,22 +5,18 @@ use Prim.Native.Nat.{ℕ, suc, _-_, _≤_, _<_}
 use native.Mathlib.Omega.{arith}
 use lib.ListN.{length}
 use lib.Ieee.{Float}
-use Rattle.errors.specs.Answer.{Answer, result, refusal, _>>=_}
 use Rattle.errors.specs.Lists.{lastOf}
 use Rattle.errors.specs.declared.Refusal.{Refusal}
-use Rattle.line2.specs.declared.Line2.{Line2}
-use Rattle.curve2.specs.Entry.{HasPoints}
-use Rattle.curve2.proofs.Laws.{entry-passed}
 use Rattle.runs.specs.Run.{ended, Out, under}
 use Rattle.inscribed.specs.Store.{circleAt, circlesFrom, circlesOf, allNumbers, stored}
 use Rattle.inscribed.specs.declared.Inscribed.{Inscribed}
 use Rattle.inscribed.proofs.StoreLaws.{length-circles, circles-of-stored}
 use Rattle.moves.specs.Machine.{State, refining, advancing, circlesIn, End, finished}
 use Rattle.moves.specs.Report.{Report, reported, listedEnd, listedRun}
-use Rattle.refine.specs.Refinement.{refineRun}
+use Rattle.waiting.specs.Waiting.{refineRun}
 use Rattle.moves.specs.declared.Run.{Run}
 use Rattle.moves.specs.declared.RunEnd.{RunEnd}
-use Rattle.refine.proofs.RefineLaws.{last-stored}
+use Rattle.waiting.proofs.RefineLaws.{last-stored}
 use Rattle.refine.proofs.RefinedLaws.{refined-fits, refined-units, refined-done, refined-report}
 use Rattle.camber.specs.March.{marchRun}
 use Rattle.advance.specs.Outcome.{Outcome, ending, going, advanceOutcome, listedAdvanced}

@@ -22,8 +22,8 @@ use Rattle.inscribed.specs.declared.Inscribed.{Inscribed}
 use Rattle.halving.specs.Halving.{fromCrossing}
 use Rattle.moves.specs.Machine.{State, refining, advancing, over, circlesIn, End, finished, measure}
 use Rattle.moves.specs.Report.{Report, reported}
-use Rattle.refine.specs.Refinement.{refineStep, refineRun}
-use Rattle.refine.proofs.MachineLaws.{refine-falls}
+use Rattle.waiting.specs.Waiting.{refineStep, refineRun}
+use Rattle.waiting.proofs.MoveLaws.{refine-falls}
 use Rattle.refine.proofs.RefinedLaws.{refined-done}
 use Rattle.ahead.specs.Ahead.{Ahead, done, along, lookAhead}
 use Rattle.steps.specs.Steps.{stepOf, triedLine}

@@ -1,9 +1,9 @@
 -- The machine of a march: its measure falls, its list grows, its pairs stay settled, and while circles wait it moves as a refinement does. Assumes nothing.
 use mathlib.Core.Path.{_≡_, refl, ap, _∙_}
 use mathlib.Core.Bool.{Bool, true, false, cond}
-use mathlib.Core.List.{List, [], _∷_, _++_}
+use mathlib.Core.List.{List, [], _∷_}
 use mathlib.Core.Option.{Option, some, none}
-use Prim.Native.Nat.{ℕ, suc, _+_, _-_, _≤_, _<_}
+use Prim.Native.Nat.{ℕ, suc, _-_, _≤_, _<_}
 use native.Mathlib.Omega.{arith}
 use borrow.Author.Tests.{ltb-true}
 use lib.Dec.{leb, ltb}
@@ -19,8 +19,9 @@ use Rattle.inscribed.specs.declared.Inscribed.{Inscribed}
 use Rattle.trial.specs.Trial.{trial}
 use Rattle.halving.specs.Halving.{fromCrossing}
 use Rattle.moves.specs.Machine.{State, refining, advancing, over, circlesIn, End, finished, withRoom, afterRoom, afterTrial, measure}
-use Rattle.refine.specs.Refinement.{refineStep}
-use Rattle.refine.proofs.MachineLaws.{no-goes, no-pays, move-goes, move-pays, move-falls, Part, no-more, part-same, part-chain, move-part, Sound, move-sound, Fits, refine-fits-goes, refine-fits-pays}
+use Rattle.waiting.specs.Waiting.{refineStep}
+use Rattle.waiting.proofs.MoveLaws.{no-goes, no-pays, move-goes, move-pays, move-falls}
+use Rattle.refine.proofs.MachineLaws.{Part, no-more, part-same, part-chain, move-part, Sound, move-sound, Fits, refine-fits-goes, refine-fits-pays}
 use Rattle.ahead.specs.Ahead.{Ahead, done, along, lookAhead}
 use Rattle.steps.specs.Steps.{stepOf, triedLine}
 use Rattle.camber.specs.March.{afterCircle, afterLine, advanceMove, marchStep, marchRun}

@@ -14,8 +14,8 @@ fn is_bad_point(p: Point2) -> bool
 {
     let x = p.x;
     let y = p.y;
-    if curve2::is_in_range(x) {
-        return !curve2::is_in_range(y);
+    if entry::is_in_range(x) {
+        return !entry::is_in_range(y);
     }
     true
 }
@@ -68,7 +68,7 @@ pub fn entered(
     if bad_end {
         return Entry::Refused(Refusal::BadNumber);
     }
-    if curve2::is_bad_tolerance(tol) {
+    if entry::is_bad_tolerance(tol) {
         return Entry::Refused(Refusal::Tolerance);
     }
     if inscribed::store::is_bad_store_count(store, count) {

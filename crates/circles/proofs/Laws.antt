@@ -12,7 +12,7 @@ use Rattle.errors.specs.Answer.{Answer, result, refusal, _>>=_}
 use Rattle.line2.specs.declared.Line2.{Line2}
 use Rattle.sections.specs.Asked.{finiteLine}
 use Rattle.inscribed.specs.declared.Inscribed.{Inscribed}
-use Rattle.trial.specs.Trial.{inscribedOn}
+use Rattle.tryline.specs.TryInscribed.{inscribedOn}
 use Rattle.circles.specs.Asked.{circleEntry, tryAsked}
 
 pub entered-points : (ns : List Float) (sectionTol tol : Float) (bad : Bool) (r : Entry) → listedEntry r ≡ circleEntry ns sectionTol tol bad → r ≡ Entry.Passed → HasPoints ns

@@ -1,16 +1,17 @@
 -- Each call: "entry tests in number order", then its step. Assumes nothing.
 use mathlib.Core.Bool.{Bool, false, not, _||_}
 use mathlib.Core.List.{List}
-use mathlib.Core.Option.{Option, some, none}
+use mathlib.Core.Option.{Option}
 use lib.Ieee.{Float}
-use Rattle.errors.specs.Answer.{Answer, result, refusal, _>>=_}
+use Rattle.errors.specs.Answer.{Answer, _>>=_}
 use Rattle.line2.specs.declared.Line2.{Line2}
 use Rattle.curve2.specs.Entry.{sectionEntry}
 use Rattle.sections.specs.Asked.{finiteLine}
 use Rattle.inscribed.specs.Store.{badCircle}
 use Rattle.inscribed.specs.declared.Inscribed.{Inscribed}
 use Rattle.halving.specs.Halving.{fromCrossing}
-use Rattle.trial.specs.Trial.{inscribedOn, trial}
+use Rattle.tryline.specs.TryInscribed.{inscribedOn}
+use Rattle.trial.specs.Trial.{trial}
 use Rattle.curve2.specs.Entry.{badGeneral}
 
 -- with whether a number of the other arguments is bad

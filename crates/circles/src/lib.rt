@@ -5,28 +5,26 @@ use inscribed::Inscribed;
 use inscribed::InscribedAnswer;
 use line2::Line2;
 use queries::Crossing;
-use trial::TriedAnswer;
+use tryline::TriedAnswer;
 ghost use mathlib.Core.Path.{_≡_};
 ghost use mathlib.Core.Bool.{_||_};
 ghost use Rattle.curve2.specs.Entry.{listedEntry};
 ghost use Rattle.inscribed.specs.Circles.{listedInscribed};
 ghost use Rattle.inscribed.specs.Store.{badCircle};
-ghost use Rattle.trial.specs.Tried.{listedTried};
+ghost use Rattle.tryline.specs.TryInscribed.{listedTried};
 ghost use Rattle.circles.specs.Asked.{circleEntry, fromCrossingAsked, tryAsked, trialAsked};
-
-pub mod refinement;
 
 // The entry tests, with whether a number of the other arguments is bad.
 fn entered(section: &[f64], section_tol: f64, tol: f64, number: bool) -> Entry
     ensures { λ r. ⌜ listedEntry r ≡ circleEntry (now (section .entry)) «section_tol» tol number ⌝ }
 {
-    let tolerance = curve2::is_bad_general(tol);
+    let tolerance = entry::is_bad_general(tol);
     let also = AlsoBad {
         number,
         tolerance,
         room: false,
     };
-    curve2::section_entry(section, section_tol, also)
+    entry::section_entry(section, section_tol, also)
 }
 
 // Whether a number of either circle is bad.
@@ -64,7 +62,7 @@ pub fn try_inscribed(section: &[f64], section_tol: f64, tol: f64, line: Line2) -
 {
     let finite = sections::is_finite_line(line);
     match entered(section, section_tol, tol, !finite) {
-        Entry::Passed => trial::inscribed_on(section, tol, line),
+        Entry::Passed => tryline::inscribed_on(section, tol, line),
         Entry::Refused(r) => InscribedAnswer::Refused(r),
     }
 }

@@ -15,10 +15,11 @@ use Rattle.points.specs.declared.Point2.{Point2}
 use Rattle.curve2.specs.Section.{pointsOf, plainDist, nextLength}
 use Rattle.curve2.specs.Entry.{badCount, inRange, badNumbers, badTolerance, notSpacedFrom, IsSection}
 use Rattle.curve2.proofs.Laws.{count-even, count-least, count-most, has-points}
-use Rattle.cleaning.specs.Cleaning.{kept, keptAfter, endsMeet, forcedClosed, closing, curveOf, cleaningEntry, cleaned, numbersOf}
+use Rattle.keeping.specs.Kept.{kept, keptAfter, endsMeet, numbersOf}
+use Rattle.keeping.proofs.Numbers.{numbers-length, numbers-points, points-numbers}
+use Rattle.cleaning.specs.Cleaning.{forcedClosed, closing, curveOf, cleaningEntry, cleaned}
 use Rattle.cleaning.specs.Curves.{crowded, notRisingFrom, IsCurve}
-use Rattle.cleaning.proofs.Numbers.{numbers-length, numbers-points, points-numbers}
-use Rattle.cleaning.proofs.Keeping.{all-passed, closing-count, kept-most}
+use Rattle.cleaning.proofs.Made.{all-passed, closing-count, kept-most}
 
 neither : (a b : Bool) → (a || b) ≡ false → (a ≡ false) × (b ≡ false)
 neither false b e = (refl, e)

@@ -1,4 +1,3 @@
--- Laws that belong to no one function: of points and their numbers, of cleaning point by point, and of a cleaned curve.
-pub mod Numbers
-pub mod Keeping
+-- Laws that belong to no one function: of the curve that cleaning makes, and of one handed in as a section.
+pub mod Made
 pub mod Laws

@@ -1,37 +1,21 @@
 -- `Curve2::from_points`: cleaning, and what it leaves in the output. Assumes nothing.
 use mathlib.Core.Path.{_≡_}
-use mathlib.Core.Bool.{Bool, true, cond}
+use mathlib.Core.Bool.{Bool, cond}
 use mathlib.Core.List.{List, [], _∷_, _++_}
-use Prim.Native.Nat.{ℕ, _+_, _*_}
+use Prim.Native.Nat.{ℕ, _+_}
 use lib.Dec.{ltb}
-use lib.ListN.{length, drop}
-use lib.Ieee.{Float, le}
+use lib.ListN.{length}
+use lib.Ieee.{Float}
 use Rattle.errors.specs.Answer.{Answer, result, refusal, _>>=_}
-use Rattle.errors.specs.Lists.{lastOf}
 use Rattle.errors.specs.Refusals.{numberOf}
 use Rattle.points.specs.declared.Point2.{Point2}
-use Rattle.curve2.specs.Section.{pointsOf, plainDist}
+use Rattle.curve2.specs.Section.{pointsOf}
 use Rattle.curve2.specs.Entry.{tested, badCount, badNumbers, badTolerance}
+use Rattle.keeping.specs.Kept.{kept, endsMeet, placed}
 use Rattle.cleaning.specs.declared.Curve.{Curve}
 use Rattle.cleaning.specs.declared.CurveAnswer.{CurveAnswer}
 
--- ---- which points are kept
-
--- "a point no farther than the tolerance from the last *kept* one is dropped"
-unfoldable pub keptAfter : Float → Point2 → List Point2 → List Point2
-keptAfter tol last [] = []
-keptAfter tol last (p ∷ ps) = cond (le (plainDist p last) tol) (keptAfter tol last ps) (p ∷ keptAfter tol p ps)
-
-unfoldable pub kept : Float → List Point2 → List Point2
-unfolding keptAfter
-kept tol [] = []
-kept tol (p ∷ ps) = p ∷ keptAfter tol p ps
-
--- "closed means ends within the tolerance"
-unfoldable pub endsMeet : Float → List Point2 → Bool
-unfolding lastOf
-endsMeet tol [] = true
-endsMeet tol (p ∷ ps) = le (plainDist p (lastOf p ps)) tol
+-- ---- the curve of the points that are kept
 
 -- "forced closing adds the start if the ends are farther apart"
 unfoldable pub forcedClosed : Float → List Point2 → List Point2
@@ -63,14 +47,6 @@ unfoldable pub cleaned : List Float → Float → Bool → ℕ → Answer (List 
 cleaned ns tol forced room = cleaningEntry ns tol room >>= λ passed. curveOf tol forced (pointsOf ns)
 
 -- ---- what is returned, and what the output holds then
-
-unfoldable pub numbersOf : List Point2 → List Float
-numbersOf [] = []
-numbersOf (p ∷ ps) = p .x ∷ (p .y ∷ numbersOf ps)
-
--- the points from the output's start on, "and an output keeps what stands behind its result"
-abbrev pub placed : List Point2 → List Float → List Float
-placed ps old = numbersOf ps ++ drop (2 * length ps) old
 
 -- "all refusals of cleaning .. change no memory"
 unfoldable pub outputAfter : Answer (List Point2) → List Float → List Float

@@ -8,7 +8,7 @@ use Rattle.points.specs.Numbers.{f0}
 use Rattle.points.specs.declared.Point2.{Point2}
 use Rattle.curve2.specs.Section.{pointsOf, plainDist, nextLength}
 use Rattle.curve2.specs.Entry.{badCount, badNumbers, badTolerance, notSpaced}
-use Rattle.cleaning.specs.Cleaning.{numbersOf}
+use Rattle.keeping.specs.Kept.{numbersOf}
 
 -- the two halves of 6: "neighbouring points no farther apart than the section tolerance",
 unfoldable pub crowded : Float → List Point2 → Bool

@@ -16,10 +16,10 @@ use Rattle.segment2.specs.declared.EdgePoint.{EdgePoint}
 use Rattle.segment2.specs.declared.EdgePointAnswer.{EdgePointAnswer}
 use Rattle.curve2.specs.Section.{pointsOf, pointAt}
 use Rattle.curve2.proofs.Laws.{length-points}
-use Rattle.queries.specs.Edges.{Edge, sectionEdges}
+use Rattle.hits.specs.Edges.{Edge, sectionEdges}
 use Rattle.closest.specs.Nearest.{nearest, closestOnAll, leastOf, leastOfAll, nearestOf}
 use Rattle.closest.specs.declared.Nearest.{Nearest}
-use Rattle.queries.proofs.EdgeLaws.{edges-step, edges-end, next-edge, length-edges}
+use Rattle.hits.proofs.EdgeLaws.{edges-step, edges-end, next-edge, length-edges}
 
 -- the nearest of the best so far and the edges from the one at i on
 abbrev pub closestLeft : List Float → Point2 → ℕ → Nearest → Answer Nearest

@@ -8,7 +8,7 @@ use Rattle.errors.specs.Refusals.{numberOf}
 use Rattle.points.specs.declared.Point2.{Point2}
 use Rattle.segment2.specs.Closest.{closestOnEdge}
 use Rattle.segment2.specs.declared.EdgePoint.{EdgePoint}
-use Rattle.queries.specs.Edges.{Edge, sectionEdges}
+use Rattle.hits.specs.Edges.{Edge, sectionEdges}
 use Rattle.closest.specs.declared.Nearest.{Nearest}
 use Rattle.closest.specs.declared.NearestAnswer.{NearestAnswer}
 

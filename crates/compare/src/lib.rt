@@ -98,7 +98,7 @@ fn run_of(
     match kind {
         26 => {
             let c = circle_from(args, 2);
-            circles::refinement::refine_and_push(section, section_tol, tol, store, count, c, limit)
+            refinement::refine_and_push(section, section_tol, tol, store, count, c, limit)
         }
         27 => camber::march::march(section, section_tol, tol, line, store, limit),
         _ => extraction::extract_circles(section, section_tol, tol, line, store, limit),

@@ -1,5 +1,5 @@
 -- Laws of a section's numbers and points. Assumes nothing.
-use mathlib.Core.Path.{_≡_, refl, sym, _∙_}
+use mathlib.Core.Path.{_≡_, refl}
 use mathlib.Core.Bool.{Bool, true, false, not, _||_, cond}
 use mathlib.Core.List.{List, [], _∷_}
 use Prim.Native.Nat.{ℕ, suc, _+_, _/_, _%_, _≤_, _<_}
@@ -7,13 +7,13 @@ use native.Mathlib.Numerals.{add-one, add-two}
 use native.Mathlib.Omega.{arith}
 use borrow.Author.Tests.{eqb-true, ltb-false, not-false}
 use lib.Dec.{eqb, ltb, lit≤}
-use lib.ListN.{length, getD, drop, drop-of-length-le}
+use lib.ListN.{length, drop, drop-of-length-le}
 use lib.Seq.{drop-cons}
-use lib.Ieee.{Float, nan, lt, le}
+use lib.Ieee.{Float, nan}
 use Rattle.errors.specs.Answer.{result, refusal}
 use Rattle.points.specs.Numbers.{_+f_}
 use Rattle.curve2.specs.Section.{pointsOf, pointAt, plainDist, wholeFrom, wholeLength}
-use Rattle.curve2.specs.Entry.{tested, badCount, inRange, badNumbers, badTolerance, notSpacedFrom, notSpaced, sectionTests, sectionEntry, HasPoints, IsSection}
+use Rattle.curve2.specs.Entry.{tested, badCount, badNumbers, badTolerance, sectionTests, sectionEntry, HasPoints, IsSection}
 use Rattle.curve2.specs.declared.AlsoBad.{AlsoBad}
 
 -- two numbers make the next point
@@ -35,43 +35,6 @@ unfolding pointsOf
 length-points [] = refl
 length-points (x ∷ []) = refl
 length-points (x ∷ (y ∷ ns)) = omega (arith, length-points ns)
-
--- ---- test 2, number by number
-
-module _ (ns : List Float) (i : ℕ) (inv : badNumbers (drop i ns) ≡ badNumbers ns) where
-  pub bad-found : i < length ns → inRange (getD ns i nan) ≡ false → true ≡ badNumbers ns
-  unfolding badNumbers
-  bad-found h p = sym (rw (drop-cons ns i nan h, p)) ∙ inv
-
-  pub bad-passed : i < length ns → inRange (getD ns i nan) ≡ true → badNumbers (drop (i + 1) ns) ≡ badNumbers ns
-  unfolding badNumbers
-  bad-passed h p = rw (add-one i) (sym (rw (drop-cons ns i nan h, p)) ∙ inv)
-
-  pub bad-none : length ns ≤ i → false ≡ badNumbers ns
-  unfolding badNumbers
-  bad-none h = sym (rw (drop-of-length-le ns h)) ∙ inv
-
--- ---- test 6, edge by edge
-
-module _ (ns : List Float) (tol : Float) (i : ℕ) (l : Float) (inv : notSpacedFrom tol l (pointsOf (drop i ns)) ≡ notSpaced ns tol) where
-  module _ (fits : i + 3 < length ns) (d : Float) (e : d ≡ plainDist (pointAt ns (i + 2)) (pointAt ns i)) where
-    edge : (le d tol || (not (lt l (d +f l)) || notSpacedFrom tol (d +f l) (pointsOf (drop (i + 2) ns)))) ≡ notSpaced ns tol
-    unfolding notSpacedFrom
-    edge = rw (e, points-step ns (i + 2) (omega arith)) (rw (points-step ns i (omega arith), points-step ns (i + 2) (omega arith)) at inv)
-
-    pub too-near : le d tol ≡ true → true ≡ notSpaced ns tol
-    too-near p = rw p at edge
-
-    module _ (far : le d tol ≡ false) where
-      pub not-rising : lt l (d +f l) ≡ false → true ≡ notSpaced ns tol
-      not-rising p = rw (far, p) at edge
-
-      pub edge-passed : lt l (d +f l) ≡ true → notSpacedFrom tol (d +f l) (pointsOf (drop (i + 2) ns)) ≡ notSpaced ns tol
-      edge-passed p = rw (far, p) at edge
-
-  pub all-spaced : i + 2 ≡ length ns → false ≡ notSpaced ns tol
-  unfolding notSpacedFrom
-  all-spaced h = rw (points-step ns i (omega arith), points-end ns (i + 2) (omega arith)) at inv
 
 -- ---- the length of the whole, edge by edge
 

@@ -1,19 +1,19 @@
 -- A value above zero by its pattern b: the exponent's field is b / 2 ^ 52, the fraction b % 2 ^ 52. They say how many units the value is, and so how its square is scaled. Assumes nothing.
 use mathlib.Core.Path.{_≡_, refl, sym, ap, _∙_, subst}
-use mathlib.Core.Bool.{Bool, true, false, not, cond, true≢false}
+use mathlib.Core.Bool.{Bool, true, false, not, cond}
 use Prim.Native.Nat.{ℕ, zero, suc, _+_, _-_, _*_, _/_, _%_, _^_, _≤_, _<_}
 use native.Mathlib.Nat.{zero-lt-suc, mul-pos, mod-eq-of-lt, mul-div-cancel, mul-one}
 use native.Mathlib.Omega.{arith}
-use lib.Dec.{T, leb, eqb, lt→ltb}
+use lib.Dec.{T, leb, eqb}
 use lib.Pow.{pow-pos}
 use lib.Bits.{bitAnd, and-mask}
 use lib.Ieee.{Float, nan, inf, fin, binary64, low, down, odd, ne, fits, isNan, nanBits, ofFields, ofBits, toBits}
 use lib.Ieee.Digits.{Equals, odd-val}
 use lib.Ieee.Fits.{down-pos, eq→eqb}
-use lib.Ieee.Exact.{HasValue, odd-sign}
+use lib.Ieee.Exact.{odd-sign}
 use lib.Ieee.Bits.{ofBits-toBits, nanBits-above}
 use lib.Ieee.Compare.{nan-differs}
-use lib.Ieee.Positive.{positive}
+use lib.Ieee.Positive.{positive, positive-of-value}
 use borrow.Author.Tests.{leb-false, le-ltb, lt-leb, ne-eqb}
 use Rattle.digits.specs.Nearest.{magnitude, square}
 
@@ -63,18 +63,11 @@ sign-of s zero t n r = r .0
 sign-of s (suc f) t n r = r .0
 
 -- a normal value that is made of its fields is above zero
-of-value : (v : Float) (a c : ℕ) → HasValue v false a c → 0 < a → T (positive v)
-of-value nan a c h p = absurd h
-of-value (inf s) a c h p = absurd h
-of-value (fin true m e) a c h p = absurd (true≢false (h .0))
-of-value (fin false zero e) a c h p = absurd (omega (arith, h .1, mul-pos p (down-pos e)))
-of-value (fin false (suc m) e) a c h p = lt→ltb 0 (suc m) (zero-lt-suc m)
-
 made-plus : (f t : ℕ) → 0 < f → f < 2047 → T (positive (ofFields binary64 false f t))
 made-plus zero t lo hi = absurd (omega arith)
 made-plus (suc f) t lo hi =
     rw (at-suc, ne-eqb (suc f) 2047 (λ e. omega (arith, e)))
-    (of-value (odd 53 false (2 ^ 52 + t) f (low binary64)) ((2 ^ 52 + t) * 2 ^ f) (2 ^ low binary64) (odd-sign 53 false (2 ^ 52 + t) f (low binary64)) (mul-pos (omega arith) (pow-pos f)))
+    (positive-of-value (odd 53 false (2 ^ 52 + t) f (low binary64)) ((2 ^ 52 + t) * 2 ^ f) (2 ^ low binary64) (odd-sign 53 false (2 ^ 52 + t) f (low binary64)) (mul-pos (omega arith) (pow-pos f)))
 
 module _ (x : Float) (f : fits binary64 x ≡ true) where
   b : ℕ

@@ -1,3 +1,3 @@
 -- Laws that belong to no one function.
-pub mod FitLaws
+pub mod EntryLaws
 pub mod LimitLaw

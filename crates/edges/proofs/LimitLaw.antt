@@ -15,16 +15,18 @@ use Rattle.runs.proofs.LimitLaws.{compared}
 use Rattle.inscribed.specs.Store.{slots, circlesOf}
 use Rattle.inscribed.specs.declared.Inscribed.{Inscribed}
 use Rattle.moves.specs.Machine.{State, refining, circlesIn, End, measure}
-use Rattle.refine.specs.Refinement.{refineStep, refineRun}
+use Rattle.waiting.specs.Waiting.{refineStep, refineRun}
 use Rattle.refine.proofs.MachineLaws.{Part, refine-grows}
 use Rattle.ends.specs.Ends.{lastPair}
 use Rattle.probe.specs.Probe.{probed}
 use Rattle.gap.specs.declared.Gap.{Gap}
 use Rattle.round.specs.Round.{Fit, fit, Progress, Round, stops, goes, afterRefined, afterOut, afterProbe, round}
 use Rattle.rounds.specs.Rounds.{onward, rounds, firstProgress}
-use Rattle.openings.specs.Openings.{endLast, fitStart, fitFrom}
+use Rattle.beyond.specs.Beyond.{endLast}
+use Rattle.openings.specs.Openings.{fitStart, fitFrom}
 use Rattle.openings.specs.declared.Start.{Start}
-use Rattle.edges.specs.Fit.{EdgeInput, edgeEntry, fitReported, fitted, fitAfter, fitOf}
+use Rattle.fits.specs.Fitted.{fitReported, fitted}
+use Rattle.edges.specs.Fit.{EdgeInput, edgeEntry, fitAfter, fitOf}
 
 module _ (limit more : ℕ) (h : limit ≤ more) (ns : List Float) (tol : Float) (slots : ℕ) where
   abbrev few : ℕ → Bool

@@ -4,14 +4,10 @@ use curve2::Entry;
 use round::EdgeFit;
 use sections::BoolAnswer;
 ghost use mathlib.Core.Path.{_≡_};
-ghost use Prim.Native.Nat.{_*_, _≤_};
-ghost use lib.ListN.{length};
-ghost use Rattle.curve2.specs.Entry.{HasPoints, listedEntry};
-ghost use Rattle.runs.specs.Run.{under};
-ghost use Rattle.inscribed.specs.Store.{circlesOf, stored};
+ghost use Rattle.curve2.specs.Entry.{listedEntry};
 ghost use Rattle.sections.specs.Asked.{listedBool};
-ghost use Rattle.openings.specs.Openings.{endLast};
-ghost use Rattle.edges.specs.Fit.{edgeEntry, openAtEnd, fitted, fitOf, listedFit};
+ghost use Rattle.fits.specs.Fitted.{listedFit};
+ghost use Rattle.edges.specs.Fit.{edgeEntry, openAtEnd, fitOf};
 
 // The entry tests of an edge.
 fn entered(
@@ -25,46 +21,14 @@ fn entered(
     ensures { λ r. ⌜ listedEntry r ≡ edgeEntry (record { section = now (section .entry); sectionTol = «section_tol»; tol = tol; store = now (store .entry); count = count; atFront = «at_front» }) ⌝ }
 {
     let number = inscribed::store::has_bad_circle(store, count);
-    let tolerance = curve2::is_bad_general(tol);
+    let tolerance = entry::is_bad_general(tol);
     let room = inscribed::store::is_bad_store_count(store, count);
     let also = AlsoBad {
         number,
         tolerance,
         room,
     };
-    curve2::section_entry(section, section_tol, also)
-}
-
-// Turns the order of the first circles of a store, where the front is meant.
-fn turn(store: &mut [f64], count: usize, at_front: bool)
-    requires { ⌜ count * 7 ≤ length (now store) ⌝ }
-    ensures { λ _. ⌜ now (store .exit) ≡ stored (endLast «at_front» (circlesOf (now (store .entry)) count)) (now (store .entry)) ⌝ }
-{
-    if at_front {
-        turning::reverse_order_only(store, count);
-    }
-}
-
-// The fit of a section and a store that passed the entry tests: turned at the front, and turned back.
-fn fit(
-    section: &[f64],
-    section_tol: f64,
-    tol: f64,
-    store: &mut [f64],
-    slots: usize,
-    count: usize,
-    at_front: bool,
-    limit: u32,
-) -> EdgeFit
-    requires { ⌜ HasPoints (now section) ⌝ }
-    requires { ⌜ (count ≤ slots) × (slots * 7 ≤ length (now store)) ⌝ }
-    ensures { λ r. ⌜ listedFit r (now (store .exit)) ≡ fitted (now (section .entry)) «section_tol» tol slots (under limit) «at_front» (now (store .entry)) count ⌝ }
-{
-    turn(store, count, at_front);
-    let r = openings::fit_at_back(section, section_tol, tol, store, slots, count, limit);
-    let n = r.count;
-    turn(store, n, at_front);
-    r
+    entry::section_entry(section, section_tol, also)
 }
 
 // The open edge of a section at one end of its circles, within a limit of units.
@@ -82,7 +46,7 @@ pub fn fit_open_edge(
     match entered(section, section_tol, tol, store, count, at_front) {
         Entry::Passed => {
             let slots = inscribed::store::slots_up_to(1024, store.len());
-            fit(
+            fits::fit(
                 section,
                 section_tol,
                 tol,
@@ -113,7 +77,7 @@ pub fn is_open_at_end(
             if curve2::is_closed(section, section_tol) {
                 return BoolAnswer::Value(false);
             }
-            openings::is_beyond_end(section, store, count, at_front)
+            beyond::is_beyond_end(section, store, count, at_front)
         }
         Entry::Refused(r) => BoolAnswer::Refused(r),
     }

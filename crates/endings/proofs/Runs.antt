@@ -1,7 +1,7 @@
 -- A refinement or a march is numbered 14 exactly where it is spent. Assumes nothing.
 use mathlib.Core.Path.{_≡_, refl, sym, ap, _∙_}
 use mathlib.Core.Bool.{Bool, true, false, cond}
-use mathlib.Core.List.{List, [], _∷_, _++_}
+use mathlib.Core.List.{List, [], _∷_}
 use mathlib.Core.Option.{Option, some, none}
 use Prim.Native.Nat.{ℕ, suc}
 use native.Mathlib.Omega.{arith}
@@ -20,7 +20,8 @@ use Rattle.halving.specs.Halving.{fromCrossing}
 use Rattle.trial.specs.Trial.{trial}
 use Rattle.moves.specs.Machine.{State, refining, advancing, over, End, finished, withRoom, afterRoom, afterTrial, refineMove, measure}
 use Rattle.moves.specs.Report.{Report, reported, listedEnd, endNumber, listedRun}
-use Rattle.refine.specs.Refinement.{refineStep, Offer, refineEntry, afterEntry, refinement, refineOf}
+use Rattle.waiting.specs.Waiting.{refineStep}
+use Rattle.refine.specs.Refinement.{Offer, refineEntry, afterEntry, refinement, refineOf}
 use Rattle.moves.specs.declared.Run.{Run}
 use Rattle.moves.specs.declared.RunEnd.{RunEnd}
 use Rattle.ahead.specs.Ahead.{Ahead, done, along, lookAhead}

@@ -25,8 +25,8 @@ use Rattle.segment2.specs.declared.EdgePoint.{EdgePoint}
 use Rattle.curve2.specs.Section.{pointsOf}
 use Rattle.curve2.specs.Entry.{badCount, badNumbers, badTolerance, notSpaced, sectionEntry}
 use Rattle.curve2.specs.declared.AlsoBad.{AlsoBad}
-use Rattle.queries.specs.Edges.{Edge, sectionEdges}
-use Rattle.queries.specs.Hits.{edgeHit, hitsFrom, sorted, dropped, nearbyOnEdge}
+use Rattle.hits.specs.Edges.{Edge, sectionEdges}
+use Rattle.hits.specs.Hits.{edgeHit, hitsFrom, sorted, dropped, nearbyOnEdge}
 use Rattle.queries.specs.Crossing.{Span, spanOf, spanned, crossed, crossingWith, crossingOf}
 use Rattle.closest.specs.Nearest.{closestOnAll, leastOfAll, nearestOf}
 use Rattle.queries.specs.declared.Crossing.{Crossing}
@@ -34,7 +34,8 @@ use Rattle.inscribed.specs.Circles.{center, contact0, contact1, contactDir, cam
 use Rattle.inscribed.specs.declared.Inscribed.{Inscribed}
 use Rattle.bisection.specs.Bisection.{Ends, halved, between, isWide, halving}
 use Rattle.halving.specs.Halving.{resolveTol, twoToMinus52, firstEnds, fromLine, fromCrossing}
-use Rattle.trial.specs.Trial.{circleOn, tryInscribed, orNoCircle, inscribedOn, sizeOf, middleRadius, judged, trial}
+use Rattle.tryline.specs.TryInscribed.{circleOn, tryInscribed, orNoCircle, inscribedOn}
+use Rattle.trial.specs.Trial.{sizeOf, middleRadius, judged, trial}
 use Rattle.ahead.specs.Ahead.{farther, farthest, along, lookAhead}
 use Rattle.steps.specs.Steps.{stepOf, wideEnough, triedLine}
 use Rattle.endings.specs.Unspent.{Unspent, good, other}

@@ -17,10 +17,11 @@ use Rattle.turning.specs.Turned.{turned}
 use Rattle.moves.specs.Machine.{State, refining, circlesIn, End, measure}
 use Rattle.moves.specs.Report.{reported}
 use Rattle.refine.proofs.MachineLaws.{Part}
-use Rattle.trial.specs.Trial.{inscribedOn}
+use Rattle.tryline.specs.TryInscribed.{inscribedOn}
 use Rattle.camber.specs.March.{Marched, marchStep, marchRun, startOf, startedRun}
 use Rattle.camber.proofs.MarchMachine.{march-grows}
-use Rattle.halves.specs.Halves.{behind, secondMarch, secondHalf}
+use Rattle.behind.specs.Behind.{behind}
+use Rattle.halves.specs.Halves.{secondMarch, secondHalf}
 use Rattle.extraction.specs.Extraction.{afterFirst, firstHalf, extractionFrom, extractionOf}
 
 module _ (limit more : ℕ) (h : limit ≤ more) where

@@ -9,10 +9,11 @@ use lib.ListN.{length, take, length-append, length-map}
 use lib.Ieee.{Float}
 use Rattle.points.specs.declared.Point2.{Point2}
 use Rattle.curve2.specs.Section.{pointsOf}
-use Rattle.cleaning.specs.Cleaning.{numbersOf, placed}
-use Rattle.cleaning.specs.Keeping.{put}
-use Rattle.cleaning.proofs.Numbers.{points-numbers}
-use Rattle.cleaning.proofs.Keeping.{put-holding, held-output, first-numbers, first-length}
+use Rattle.keeping.specs.Kept.{numbersOf, placed}
+use Rattle.keeping.specs.Keeping.{put}
+use Rattle.keeping.proofs.Numbers.{points-numbers}
+use Rattle.keeping.proofs.Keeping.{put-holding}
+use Rattle.cleaning.proofs.Made.{held-output, first-numbers, first-length}
 use Rattle.inscribed.specs.Circles.{center}
 use Rattle.inscribed.specs.Store.{circleAt, circlesFrom, circlesOf}
 use Rattle.inscribed.proofs.StoreLaws.{length-circles}

@@ -6,7 +6,7 @@ use lib.Ieee.{Float}
 use Rattle.errors.specs.Answer.{Answer, _>>=_}
 use Rattle.points.specs.declared.Point2.{Point2}
 use Rattle.cleaning.specs.Cleaning.{curveOf}
-use Rattle.cleaning.specs.Keeping.{put}
+use Rattle.keeping.specs.Keeping.{put}
 use Rattle.inscribed.specs.Circles.{center}
 use Rattle.inscribed.specs.Store.{circlesOf}
 use Rattle.centers.specs.Centers.{badPoint, camberEntry}

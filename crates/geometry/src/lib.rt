@@ -19,7 +19,7 @@ fn put_centers(store: &[f64], count: usize, points: &mut [f64], first: usize)
     while k < count {
         let c = inscribed::store::circle_at(store, k);
         let p = c.center();
-        cleaning::put(points, first + k, p);
+        keeping::put(points, first + k, p);
         k += 1;
     }
 }
@@ -50,9 +50,9 @@ fn curve_between(
     ensures { λ r. ⌜ Made (curveOf tol false («le_point» ∷ (centers (now (store .entry)) count ++ («te_point» ∷ [])))) tol (now (out .entry)) (now (out .exit)) r ⌝ }
 {
     let mut points = [0.0; 2052];
-    cleaning::put(&mut points, 0, le_point);
+    keeping::put(&mut points, 0, le_point);
     put_centers(store, count, &mut points, 1);
-    cleaning::put(&mut points, 1 + count, te_point);
+    keeping::put(&mut points, 1 + count, te_point);
     let n = 2 * (count + 2);
     cleaning::clean_points(&points[..n], tol, false, out)
 }

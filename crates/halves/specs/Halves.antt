@@ -1,8 +1,8 @@
 -- The second half of an extraction: "turn order and contacts, drop the last, march from the reversed line". Assumes nothing.
 use mathlib.Core.Bool.{Bool}
-use mathlib.Core.List.{List, [], _∷_, _++_}
-use Prim.Native.Nat.{ℕ, _+_, _-_, _*_}
-use lib.ListN.{length, take, drop}
+use mathlib.Core.List.{List, [], _∷_}
+use Prim.Native.Nat.{ℕ, _-_, _*_}
+use lib.ListN.{length, drop}
 use lib.Ieee.{Float}
 use Rattle.errors.specs.Answer.{Answer, result, refusal}
 use Rattle.line2.specs.Lines.{reversedLine}
@@ -13,12 +13,9 @@ use Rattle.inscribed.specs.declared.Inscribed.{Inscribed}
 use Rattle.turning.specs.Turned.{turned}
 use Rattle.moves.specs.Machine.{refining}
 use Rattle.moves.specs.Report.{Report, reported}
-use Rattle.trial.specs.Trial.{inscribedOn}
+use Rattle.tryline.specs.TryInscribed.{inscribedOn}
 use Rattle.camber.specs.March.{marchRun}
-
--- "into the part of the store that starts behind the first": what a run in the part behind k circles leaves of the whole
-unfoldable pub behind : ℕ → List Float → Report → Report
-behind k store r = record { ending = r .ending; count = k + r .count; units = r .units; store = take (k * width) store ++ r .store }
+use Rattle.behind.specs.Behind.{behind}
 
 -- the second march, "with the slots the whole has left"; refused before it holds a circle, it leaves the turned order
 unfoldable pub secondMarch : List Float → Float → ℕ → (ℕ → Bool) → List Float → ℕ → ℕ → Answer Inscribed → Report

@@ -8,7 +8,7 @@ use native.Mathlib.Nat.{add-zero}
 use native.Mathlib.Omega.{arith}
 use borrow.Author.Tests.{ltb-false}
 use lib.Dec.{ltb}
-use lib.ListN.{length, getD, set, take, drop, length-append, length-drop, take-append-drop}
+use lib.ListN.{length, getD, set, take, drop, length-append, take-append-drop}
 use lib.Seq.{drop-cons, drop-drop, take-add, sets-eq, take-at, drop-append-add, getD-append-add}
 use lib.Ieee.{Float, nan}
 use Rattle.errors.specs.Answer.{result, refusal}
@@ -29,6 +29,11 @@ pub length-all : (cs : List Inscribed) → length (allNumbers cs) ≡ 7 * length
 unfolding allNumbers
 length-all [] = refl
 length-all (c ∷ cs) = omega (arith, length-append (numbersOf c) (allNumbers cs), length-numbers c, length-all cs)
+
+pub numbers-append : (cs ds : List Inscribed) → allNumbers (cs ++ ds) ≡ allNumbers cs ++ allNumbers ds
+unfolding allNumbers
+numbers-append [] ds = refl
+numbers-append (c ∷ cs) ds = rw (numbers-append cs ds) (sym (append-assoc (numbersOf c) (allNumbers cs) (allNumbers ds)))
 
 pub length-circles : (ns : List Float) (k n : ℕ) → length (circlesFrom ns k n) ≡ n
 unfolding circlesFrom

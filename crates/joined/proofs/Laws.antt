@@ -13,14 +13,14 @@ use lib.Ieee.{Float, nan, lt}
 use Rattle.errors.specs.Answer.{Answer, result, refusal, _>>=_}
 use Rattle.points.specs.Numbers.{_-f_, within}
 use Rattle.line2.specs.declared.Line2.{Line2}
-use Rattle.queries.specs.Edges.{sectionEdges}
-use Rattle.queries.specs.Hits.{Hit, hitsFrom, inserted, sortedInto, sorted, small, nearby, droppedAfter, dropped}
-use Rattle.queries.specs.Seen.{addedTo, seenOf}
+use Rattle.hits.specs.Edges.{sectionEdges}
+use Rattle.hits.specs.Hits.{Hit, hitsFrom, inserted, sortedInto, sorted, small, nearby, droppedAfter, dropped}
+use Rattle.hits.specs.Seen.{addedTo, seenOf}
 use Rattle.queries.specs.Crossing.{Span, spanOf, crossed, crossingWith, joinedCrossingOf}
 use Rattle.joined.specs.Fractions.{fractions, placeOf, insertedFraction, sortedFractions, keptAfter, keptOf}
-use Rattle.queries.specs.declared.hits.Seen.{Seen}
-use Rattle.queries.proofs.PassLaws.{gathered, passLeft}
-use Rattle.queries.proofs.SeenLaws.{after-nothing}
+use Rattle.hits.specs.declared.Seen.{Seen}
+use Rattle.hits.proofs.PassLaws.{gathered, passLeft}
+use Rattle.hits.proofs.SeenLaws.{after-nothing}
 
 -- ---- where t goes
 

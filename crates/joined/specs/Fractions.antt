@@ -8,9 +8,9 @@ use Rattle.errors.specs.Answer.{Answer, result, refusal, _>>=_}
 use Rattle.errors.specs.Refusals.{numberOf}
 use Rattle.points.specs.Numbers.{_-f_, within}
 use Rattle.line2.specs.declared.Line2.{Line2}
-use Rattle.queries.specs.Hits.{Hit, hitsOf, sorted, small}
-use Rattle.queries.specs.Seen.{addedTo}
-use Rattle.queries.specs.declared.hits.Seen.{Seen}
+use Rattle.hits.specs.Hits.{Hit, hitsOf, sorted, small}
+use Rattle.hits.specs.Seen.{addedTo}
+use Rattle.hits.specs.declared.Seen.{Seen}
 use Rattle.joined.specs.declared.CountAnswer.{CountAnswer}
 
 abbrev pub fractions : List Hit → List Float

@@ -1,9 +1,9 @@
 // The joined crossing: hits near each other count as one. Their fractions are kept sorted in an array, one place for each edge that a section can have.
 use errors::Refusal;
+use hits::HitAnswer;
+use hits::Seen;
 use line2::Line2;
 use queries::CrossingAnswer;
-use queries::hits::HitAnswer;
-use queries::hits::Seen;
 ghost use mathlib.Core.Path.{_≡_};
 ghost use mathlib.Core.List.{_++_};
 ghost use Prim.Native.Nat.{_+_, _≤_, _<_};
@@ -58,7 +58,7 @@ fn sorted_hits(section: &[f64], line: Line2, ts: &mut [f64]) -> CountAnswer
     let mut n: usize = 0;
     let mut i: usize = 0;
     while i + 3 < section.len() {
-        match queries::hits::hit_at(section, i, line) {
+        match hits::hit_at(section, i, line) {
             HitAnswer::At(t) => {
                 insert(ts, n, t);
                 n += 1;
@@ -87,7 +87,7 @@ fn kept_hits(ts: &[f64], n: usize) -> Seen
     while k < n {
         let t = ts[k];
         if !points::is_within(1e-8, t - last) {
-            seen = queries::hits::added(seen, t);
+            seen = hits::added(seen, t);
             last = t;
         }
         k += 1;

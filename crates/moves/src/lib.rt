@@ -1,11 +1,11 @@
 // The moves of refinements and marches while circles wait, and what a run returns.
 use errors::Refusal;
 use inscribed::Inscribed;
-use trial::TriedAnswer;
+use tryline::TriedAnswer;
 ghost use mathlib.Core.Path.{_≡_};
 ghost use Rattle.curve2.specs.Entry.{HasPoints};
 ghost use Rattle.trial.specs.Trial.{trial};
-ghost use Rattle.trial.specs.Tried.{listedTried};
+ghost use Rattle.tryline.specs.TryInscribed.{listedTried};
 ghost use Rattle.moves.specs.Machine.{withRoom};
 ghost use Rattle.moves.specs.Report.{endNumber};
 

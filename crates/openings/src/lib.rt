@@ -1,26 +1,20 @@
-// The open end of a section that was tested: where the fit starts, the fit at the end of the last circles, and whether the section's ends lie beyond them.
+// The open end of a section that was tested: where the fit starts, and the fit at the end of the last circles.
 use ends::Pair;
 use errors::Refusal;
-use errors::ScalarAnswer;
 use gap::Gap;
 use gap::GapAnswer;
-use line2::Line2;
 use line2::LineAnswer;
 use points::Point2;
 use points::PointAnswer;
 use round::EdgeFit;
-use sections::BoolAnswer;
 ghost use mathlib.Core.Path.{_≡_};
 ghost use Prim.Native.Nat.{_*_, _≤_};
 ghost use lib.ListN.{length};
-ghost use Rattle.errors.specs.Answer.{result};
 ghost use Rattle.curve2.specs.Entry.{HasPoints};
 ghost use Rattle.runs.specs.Run.{under};
 ghost use Rattle.inscribed.specs.Store.{circlesOf};
-ghost use Rattle.sections.specs.Asked.{listedBool};
-ghost use Rattle.ends.specs.Ends.{lastPair};
 ghost use Rattle.round.specs.Reached.{Fits};
-ghost use Rattle.openings.specs.Openings.{endLast, beyondLine, beyond, startOf, listedStart, fitStart, fitFrom};
+ghost use Rattle.openings.specs.Openings.{startOf, listedStart, fitStart, fitFrom};
 
 // Where the rounds of a fit start: the gap, and the first point on it.
 pub struct Start {
@@ -85,56 +79,5 @@ pub fn fit_at_back(
             rounds::rounds(section, tol, store, slots, count, gap, point, limit)
         }
         StartAnswer::Refused(r) => round::refused(r, count, 0),
-    }
-}
-
-// The two circles at the end that is meant, the outermost last.
-fn end_pair(store: &[f64], count: usize, at_front: bool) -> Pair
-    requires { ⌜ (2 ≤ count) × (count * 7 ≤ length (now store)) ⌝ }
-    ensures { λ r. ⌜ lastPair (endLast «at_front» (circlesOf (now (store .entry)) count)) ≡ result r ⌝ }
-{
-    if at_front {
-        let before = inscribed::store::circle_at(store, 1);
-        let last = inscribed::store::circle_at(store, 0);
-        return Pair { before, last };
-    }
-    ends::last_pair(store, count)
-}
-
-// Whether both ends of the section lie beyond a line.
-fn is_beyond(section: &[f64], clip: Line2) -> BoolAnswer
-    requires { ⌜ HasPoints (now section) ⌝ }
-    ensures { λ r. ⌜ listedBool r ≡ beyondLine (now (section .entry)) clip ⌝ }
-{
-    let end = section.len() / 2 - 1;
-    let p = vertices::vertex_at(section, 0);
-    let q = vertices::vertex_at(section, end);
-    match clip.scalar_project(p) {
-        ScalarAnswer::Value(a) => {
-            if !(0.0 < a) {
-                return BoolAnswer::Value(false);
-            }
-            match clip.scalar_project(q) {
-                ScalarAnswer::Value(b) => BoolAnswer::Value(0.0 < b),
-                ScalarAnswer::Refused(r) => BoolAnswer::Refused(r),
-            }
-        }
-        ScalarAnswer::Refused(r) => BoolAnswer::Refused(r),
-    }
-}
-
-// Whether both ends of an open section lie beyond the end of the circles that is meant.
-pub fn is_beyond_end(section: &[f64], store: &[f64], count: usize, at_front: bool) -> BoolAnswer
-    requires { ⌜ HasPoints (now section) ⌝ }
-    requires { ⌜ count * 7 ≤ length (now store) ⌝ }
-    ensures { λ r. ⌜ listedBool r ≡ beyond (now (section .entry)) (endLast «at_front» (circlesOf (now (store .entry)) count)) ⌝ }
-{
-    if count < 2 {
-        return BoolAnswer::Refused(Refusal::TooFewCircles);
-    }
-    let end = end_pair(store, count, at_front);
-    match ends::clip_line(end) {
-        LineAnswer::Value(clip) => is_beyond(section, clip),
-        LineAnswer::Refused(r) => BoolAnswer::Refused(r),
     }
 }

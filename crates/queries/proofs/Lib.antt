@@ -1,6 +1,3 @@
 -- Laws that belong to no one function.
-pub mod EdgeLaws
-pub mod PassLaws
-pub mod SeenLaws
 pub mod CrossingLaws
 pub mod OrderLaws

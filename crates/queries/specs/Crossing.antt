@@ -7,7 +7,7 @@ use Rattle.errors.specs.Answer.{Answer, result, refusal, _>>=_}
 use Rattle.errors.specs.Refusals.{numberOf}
 use Rattle.line2.specs.Lines.{lineThrough, atParam}
 use Rattle.line2.specs.declared.Line2.{Line2}
-use Rattle.queries.specs.Hits.{Hit, hitsOf, sorted, dropped, nearby, nearbyOnEdge}
+use Rattle.hits.specs.Hits.{Hit, hitsOf, sorted, dropped, nearby, nearbyOnEdge}
 use Rattle.queries.specs.declared.Crossing.{Crossing}
 use Rattle.queries.specs.declared.CrossingAnswer.{CrossingAnswer}
 

@@ -1,5 +1,2 @@
--- What is asked of a section's edges: where a line hits them, and where it crosses.
-pub mod Edges
-pub mod Hits
+-- Where a line crosses a section.
 pub mod Crossing
-pub mod Seen

@@ -1,8 +1,8 @@
 // Where a line crosses a section.
 use crate::Crossing;
 use crate::CrossingAnswer;
-use crate::hits::Seen;
-use crate::hits::SeenAnswer;
+use hits::Seen;
+use hits::SeenAnswer;
 use line2::Line2;
 use line2::LineAnswer;
 use points::PointAnswer;
@@ -32,7 +32,7 @@ pub fn crossing_line(section: &[f64], line: Line2) -> CrossingAnswer
     requires { ⌜ HasPoints (now section) ⌝ }
     ensures { λ r. ⌜ listedCrossing r ≡ crossingOf (now (section .entry)) line ⌝ }
 {
-    match crate::hits::seen_hits(section, line) {
+    match hits::seen_hits(section, line) {
         SeenAnswer::Value(seen) => match seen {
             Seen::Pair(s, t) => {
                 if t < s {

@@ -1,9 +1,8 @@
-// What is asked of a section's edges: where a line hits them, and where it crosses.
+// Where a line crosses a section.
 use errors::Refusal;
 use line2::Line2;
 
 pub mod crossings;
-pub mod hits;
 
 // A line whose ends, at 0 and at 1, are its two hits.
 pub struct Crossing {

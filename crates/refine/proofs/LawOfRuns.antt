@@ -1,7 +1,7 @@
 -- The limit law of any run of the machine whose list grows at its end and whose pairs stay settled: refinements and marches are such. Assumes nothing.
 use mathlib.Core.Path.{_≡_, refl, sym, ap, _∙_}
 use mathlib.Core.Bool.{Bool}
-use mathlib.Core.List.{List, [], _∷_, _++_, append-assoc}
+use mathlib.Core.List.{List, [], _∷_, _++_, append-assoc, append-nil}
 use Prim.Native.Nat.{ℕ, suc, _+_, _-_, _*_, _≤_}
 use native.Mathlib.Nat.{add-zero}
 use native.Mathlib.Omega.{arith}
@@ -10,9 +10,9 @@ use lib.Seq.{take-at, drop-at, drop-append-le}
 use lib.Ieee.{Float}
 use Rattle.runs.specs.Run.{Move, goes, pays, Out, under, never, whole}
 use Rattle.runs.proofs.LimitLaws.{Grows, part-grows, run-holds, spent-if, if-spent, not-spent, units-min, not-spent-later, part-later}
-use Rattle.inscribed.specs.Store.{circlesOf, numbersOf, allNumbers, stored}
+use Rattle.inscribed.specs.Store.{circlesOf, allNumbers, stored}
 use Rattle.inscribed.specs.declared.Inscribed.{Inscribed}
-use Rattle.inscribed.proofs.StoreLaws.{length-all, length-circles, numbers-of-circles}
+use Rattle.inscribed.proofs.StoreLaws.{length-all, numbers-append, length-circles, numbers-of-circles}
 use Rattle.moves.specs.Machine.{State, circlesIn, End}
 use Rattle.moves.specs.Report.{Report, reported, refusedOnEntry}
 use Rattle.refine.specs.Law.{Settled, LimitLaw}
@@ -21,15 +21,6 @@ use Rattle.refine.proofs.MachineLaws.{Part, Sound}
 -- the old last circle, if there is one
 abbrev pub oldLast : List Float → ℕ → List Inscribed
 oldLast old count = drop (count - 1) (circlesOf old count)
-
-numbers-append : (cs ds : List Inscribed) → allNumbers (cs ++ ds) ≡ allNumbers cs ++ allNumbers ds
-unfolding allNumbers
-numbers-append [] ds = refl
-numbers-append (c ∷ cs) ds = rw (numbers-append cs ds) (sym (append-assoc (numbersOf c) (allNumbers cs) (allNumbers ds)))
-
-append-none : {A : Type 0} (xs : List A) → xs ++ [] ≡ xs
-append-none [] = refl
-append-none (x ∷ xs) = ap (λ (l : List _). x ∷ l) (append-none xs)
 
 pub short-settled : (ns : List Float) (tol : Float) (cs : List Inscribed) → length cs ≤ 1 → Settled ns tol cs
 short-settled ns tol [] h = tt
@@ -45,9 +36,9 @@ pub entry-law : (ns : List Float) (tol : Float) (old : List Float) (count n limi
     → LimitLaw ns tol old (oldLast old count) count (λ l. refusedOnEntry old count n) (refusedOnEntry old count n) (λ l. []) limit
 unfolding allNumbers
 entry-law ns tol old count n limit = record {
-  store = rw (add-zero count, append-none (take (7 * count) old)) (sym (take-append-drop (7 * count) old));
+  store = rw (add-zero count, append-nil (take (7 * count) old)) (sym (take-append-drop (7 * count) old));
   counted = sym (add-zero count);
-  settled = rw (append-none (oldLast old count)) (short-settled ns tol (oldLast old count) (short-last old count));
+  settled = rw (append-nil (oldLast old count)) (short-settled ns tol (oldLast old count) (short-last old count));
   spent-if = λ h. absurd (omega arith);
   if-spent = λ e. let z : _≡_ {A = ℕ} 0 1 = cc in absurd (omega arith);
   units = omega arith;
@@ -118,6 +109,6 @@ module _ (step : State → Move State End) (measure : State → ℕ) (grows : Gr
     first = λ more h.
         let p = part-later step measure start Part grows limit more h in
         let cs = circlesUnder (under limit) in
-        rw (p .1) (first-numbers cs (p .0)) ∙ sym (ap (λ (x : List Inscribed). take (7 * length cs) (stored x old)) (sym (append-none cs)) ∙ first-numbers cs []);
+        rw (p .1) (first-numbers cs (p .0)) ∙ sym (ap (λ (x : List Inscribed). take (7 * length cs) (stored x old)) (sym (append-nil cs)) ∙ first-numbers cs []);
     fewer = λ more h. let p = part-later step measure start Part grows limit more h in omega (arith, ap length (p .1), length-append (circlesUnder (under limit)) (p .0));
   }

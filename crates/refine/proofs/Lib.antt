@@ -2,5 +2,5 @@
 pub mod MachineLaws
 pub mod LawOfRuns
 pub mod RefinementLaw
-pub mod RefineLaws
+pub mod EmptyLaws
 pub mod RefinedLaws

@@ -16,7 +16,7 @@ use Rattle.inscribed.specs.declared.Inscribed.{Inscribed}
 use Rattle.inscribed.proofs.StoreLaws.{stored-longer}
 use Rattle.moves.specs.Machine.{State, refining, advancing, over, circlesIn, End, finished, refineMove, measure}
 use Rattle.moves.specs.Report.{Report, reported}
-use Rattle.refine.specs.Refinement.{refineStep, refineRun}
+use Rattle.waiting.specs.Waiting.{refineStep, refineRun}
 use Rattle.refine.proofs.MachineLaws.{refine-grows, Part, Kept, refine-offered-goes, refine-offered-pays, Fits, refine-fits-goes, refine-fits-pays}
 
 -- ---- one refinement

@@ -20,7 +20,8 @@ use Rattle.inscribed.specs.declared.Inscribed.{Inscribed}
 use Rattle.inscribed.proofs.StoreLaws.{length-circles}
 use Rattle.moves.specs.Machine.{State, refining, advancing, over, circlesIn, End, finished, refineMove, measure}
 use Rattle.moves.specs.Report.{reported}
-use Rattle.refine.specs.Refinement.{refineStep, Offer, refineEntry, offeredRun, afterEntry, refinement, refineOf, plainRefinement, acceptedAfter, accepted}
+use Rattle.waiting.specs.Waiting.{refineStep}
+use Rattle.refine.specs.Refinement.{Offer, refineEntry, offeredRun, afterEntry, refinement, refineOf, plainRefinement, acceptedAfter, accepted}
 use Rattle.refine.specs.Law.{LimitLaw, OfferedLast}
 use Rattle.refine.proofs.MachineLaws.{refine-grows, Sound, refine-sound-goes, refine-sound-pays, Kept, refine-offered-goes, refine-offered-pays}
 use Rattle.refine.proofs.LawOfRuns.{oldLast, entry-law, run-law, short-settled, short-last}

@@ -6,23 +6,12 @@ use lib.ListN.{drop}
 use lib.Ieee.{Float}
 use Rattle.errors.specs.Answer.{Answer, result, refusal}
 use Rattle.curve2.specs.Entry.{badGeneral, sectionEntry}
-use Rattle.runs.specs.Run.{Move, ends, Out, under, never, whole}
+use Rattle.runs.specs.Run.{Out, under, never}
 use Rattle.inscribed.specs.Store.{slots, circlesOf, badCircle, badStore, badStoreCount}
 use Rattle.inscribed.specs.declared.Inscribed.{Inscribed}
-use Rattle.moves.specs.Machine.{State, refining, advancing, over, circlesIn, End, finished, refineMove, measure}
+use Rattle.moves.specs.Machine.{State, circlesIn, End}
 use Rattle.moves.specs.Report.{Report, reported, refusedOnEntry}
-
--- "None waits: finished."
-unfoldable pub refineStep : List Float → Float → ℕ → State → Move State End
-unfolding refineMove
-refineStep ns tol slots (refining cs []) = ends finished
-refineStep ns tol slots (refining cs (b ∷ ws)) = refineMove ns tol slots cs b ws
-refineStep ns tol slots (advancing cs k) = ends finished
-refineStep ns tol slots (over cs n) = ends (refusal n)
-
--- the run from a list and waiting circles on, with u units taken; `full` says where no further unit may be taken
-abbrev pub refineRun : List Float → Float → ℕ → (ℕ → Bool) → List Inscribed → List Inscribed → ℕ → Out State End
-refineRun ns tol slots full cs ws u = whole (refineStep ns tol slots) (measure slots) full (refining cs ws) u
+use Rattle.waiting.specs.Waiting.{refineRun}
 
 -- what is handed in: a section with its tolerance, a general tolerance, a store with its stated count, and the offered circle
 pub record Offer : Type 0 where

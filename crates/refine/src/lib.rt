@@ -2,64 +2,15 @@
 use errors::Refusal;
 use inscribed::Inscribed;
 use moves::Run;
-use trial::TriedAnswer;
 ghost use mathlib.Core.Path.{_≡_};
 ghost use mathlib.Core.List.{[], _∷_};
-ghost use Prim.Native.Nat.{_*_, _≤_, _<_};
+ghost use Prim.Native.Nat.{_*_, _≤_};
 ghost use lib.ListN.{length};
 ghost use Rattle.curve2.specs.Entry.{HasPoints};
 ghost use Rattle.runs.specs.Run.{under};
 ghost use Rattle.inscribed.specs.Store.{circlesOf};
 ghost use Rattle.moves.specs.Report.{reported, listedRun};
-ghost use Rattle.refine.specs.Refinement.{refineRun};
-
-// Offers a circle to a store that holds one at least: it waits, and while any waits the newest is tried against the last.
-fn refine_behind(
-    section: &[f64],
-    tol: f64,
-    store: &mut [f64],
-    slots: usize,
-    count: usize,
-    circle: Inscribed,
-    limit: u32,
-    units: u32,
-) -> Run
-    requires { ⌜ HasPoints (now section) ⌝ }
-    requires { ⌜ (0 < count) × (count ≤ slots) × (slots * 7 ≤ length (now store)) × (units ≤ limit) ⌝ }
-    ensures { λ r. ⌜ listedRun r (now (store .exit)) ≡ reported (now (store .entry)) (refineRun (now (section .entry)) tol slots (under limit) (circlesOf (now (store .entry)) count) (circle ∷ []) units) ⌝ }
-{
-    let mut waiting = [circle; 64];
-    let mut w: usize = 1;
-    let mut n = count;
-    let mut u = units;
-    while 0 < w {
-        if limit <= u {
-            return moves::spent(n, u);
-        }
-        let t = w - 1;
-        let top = waiting[t];
-        let k = n - 1;
-        let last = inscribed::store::circle_at(store, k);
-        let v = u + 1;
-        match moves::tried(section, tol, slots, n, w, last, top) {
-            TriedAnswer::Refused(r) => {
-                return moves::refused(r, n, v);
-            }
-            TriedAnswer::Value(d) => {
-                waiting[w] = d;
-                w = w + 1;
-                u = v;
-            }
-            TriedAnswer::Nothing => {
-                inscribed::store::put_circle(store, n, top);
-                n = n + 1;
-                w = t;
-                u = v;
-            }
-        }
-    }
-    moves::finished(n, u)
-}
+ghost use Rattle.waiting.specs.Waiting.{refineRun};
 
 // Offers a circle to the circles in a store of a checked section. The store has room for `slots` circles and holds `count`;
 // `units` have been taken before. An empty store accepts it without a trial.
@@ -78,7 +29,7 @@ pub fn refine(
     ensures { λ r. ⌜ listedRun r (now (store .exit)) ≡ reported (now (store .entry)) (refineRun (now (section .entry)) tol slots (under limit) (circlesOf (now (store .entry)) count) (circle ∷ []) units) ⌝ }
 {
     if 0 < count {
-        return refine_behind(section, tol, store, slots, count, circle, limit, units);
+        return waiting::refine_behind(section, tol, store, slots, count, circle, limit, units);
     }
     if slots == 0 {
         return moves::refused(Refusal::StoreFull, count, units);

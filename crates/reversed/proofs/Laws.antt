@@ -12,10 +12,11 @@ use Rattle.curve2.specs.Section.{pointsOf, pointAt}
 use Rattle.curve2.specs.Entry.{badCount, badNumbers, badTolerance, notSpaced, sectionEntry}
 use Rattle.curve2.specs.declared.AlsoBad.{AlsoBad}
 use Rattle.curve2.proofs.Laws.{points-step, points-end}
-use Rattle.cleaning.specs.Cleaning.{numbersOf, placed}
-use Rattle.cleaning.specs.Keeping.{Held, put, holding}
-use Rattle.cleaning.proofs.Numbers.{points-length}
-use Rattle.cleaning.proofs.Keeping.{all-passed, put-holding}
+use Rattle.keeping.specs.Kept.{numbersOf, placed}
+use Rattle.keeping.specs.Keeping.{Held, put, holding}
+use Rattle.keeping.proofs.Numbers.{points-length}
+use Rattle.keeping.proofs.Keeping.{put-holding}
+use Rattle.cleaning.proofs.Made.{all-passed}
 
 -- ---- the entry tests
 

@@ -1,17 +1,18 @@
 // A section's points backwards.
 use cleaning::Curve;
 use cleaning::CurveAnswer;
-use cleaning::ends_meet;
-use cleaning::point_at;
-use cleaning::put;
 use curve2::AlsoBad;
 use curve2::Entry;
+use keeping::ends_meet;
+use keeping::point_at;
+use keeping::put;
 ghost use mathlib.Core.Path.{_≡_};
 ghost use mathlib.Core.List.{reverse};
 ghost use Prim.Native.Nat.{_%_, _≤_};
 ghost use lib.ListN.{length};
 ghost use Rattle.curve2.specs.Section.{pointsOf};
-ghost use Rattle.cleaning.specs.Cleaning.{placed, Made};
+ghost use Rattle.keeping.specs.Kept.{placed};
+ghost use Rattle.cleaning.specs.Cleaning.{Made};
 ghost use Rattle.reversed.specs.Reversed.{backwards};
 
 // A section's points backwards, into the output's start.
@@ -40,7 +41,7 @@ pub fn reversed(points: &[f64], tol: f64, out: &mut [f64]) -> CurveAnswer
         tolerance: false,
         room: out.len() < n,
     };
-    match curve2::section_entry(points, tol, also) {
+    match entry::section_entry(points, tol, also) {
         Entry::Passed => {
             put_backwards(points, out);
             let is_closed = ends_meet(&out[..n], tol);

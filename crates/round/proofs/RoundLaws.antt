@@ -15,7 +15,7 @@ use Rattle.inscribed.proofs.StoreLaws.{length-circles, stored-again, circles-of
 use Rattle.inscribed.specs.declared.Inscribed.{Inscribed}
 use Rattle.moves.specs.Machine.{State, circlesIn, End}
 use Rattle.moves.specs.Report.{Report, reported, listedEnd, listedRun}
-use Rattle.refine.specs.Refinement.{refineRun}
+use Rattle.waiting.specs.Waiting.{refineRun}
 use Rattle.moves.specs.declared.Run.{Run}
 use Rattle.refine.proofs.RefinedLaws.{refined-fits, refined-units, refined-part}
 use Rattle.ends.specs.Ends.{lastPair}

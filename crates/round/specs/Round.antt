@@ -2,7 +2,7 @@
 use mathlib.Core.Bool.{Bool}
 use mathlib.Core.List.{List, [], _∷_}
 use mathlib.Core.Option.{Option, some, none}
-use Prim.Native.Nat.{ℕ, suc}
+use Prim.Native.Nat.{ℕ}
 use lib.Ieee.{Float}
 use Rattle.errors.specs.Answer.{Answer, result, refusal, _>>=_}
 use Rattle.points.specs.Points.{distOf}
@@ -10,7 +10,7 @@ use Rattle.points.specs.declared.Point2.{Point2}
 use Rattle.runs.specs.Run.{Ending, ended, spent, unfinished, Out}
 use Rattle.inscribed.specs.declared.Inscribed.{Inscribed}
 use Rattle.moves.specs.Machine.{State, circlesIn, End}
-use Rattle.refine.specs.Refinement.{refineRun}
+use Rattle.waiting.specs.Waiting.{refineRun}
 use Rattle.ends.specs.Ends.{lastPair}
 use Rattle.gap.specs.declared.Gap.{Gap}
 use Rattle.round.specs.declared.Moved.{Moved}

@@ -6,7 +6,7 @@ use moves::Run;
 use moves::RunEnd;
 use points::Point2;
 use points::PointAnswer;
-use trial::TriedAnswer;
+use tryline::TriedAnswer;
 ghost use mathlib.Core.Path.{_≡_};
 ghost use Prim.Native.Nat.{_*_, _≤_};
 ghost use lib.ListN.{length};

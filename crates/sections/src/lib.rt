@@ -40,7 +40,7 @@ fn entered(section: &[f64], tol: f64, number: bool, room: bool) -> Entry
         tolerance: false,
         room,
     };
-    curve2::section_entry(section, tol, also)
+    entry::section_entry(section, tol, also)
 }
 
 // Whether a section has an edge of that number.

@@ -14,10 +14,11 @@ use Rattle.errors.specs.declared.Refusal.{Refusal}
 use Rattle.points.specs.declared.Point2.{Point2}
 use Rattle.points.specs.declared.Vector2.{Vector2}
 use Rattle.curve2.specs.Entry.{HasPoints}
-use Rattle.cleaning.specs.Cleaning.{kept, curveOf, numbersOf, curveAnswer, outputAfter, Made}
+use Rattle.keeping.specs.Kept.{kept, numbersOf}
+use Rattle.cleaning.specs.Cleaning.{curveOf, curveAnswer, outputAfter, Made}
 use Rattle.cleaning.specs.declared.Curve.{Curve}
 use Rattle.cleaning.specs.declared.CurveAnswer.{CurveAnswer}
-use Rattle.cleaning.proofs.Keeping.{kept-count, first-numbers, first-length}
+use Rattle.cleaning.proofs.Made.{kept-count, first-numbers, first-length}
 use Rattle.closest.specs.Nearest.{nearestOf}
 use Rattle.closest.specs.declared.Nearest.{Nearest}
 use Rattle.closest.proofs.ClosestLaws.{nearest-below}

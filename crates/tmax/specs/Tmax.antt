@@ -6,7 +6,8 @@ use lib.Ieee.{Float, lt, ofBits, binary64}
 use Rattle.errors.specs.Answer.{Answer, result, watched, _>>=_}
 use Rattle.points.specs.Numbers.{_*f_, f½}
 use Rattle.curve2.specs.Section.{wholeLength}
-use Rattle.cleaning.specs.Cleaning.{curveOf, numbersOf}
+use Rattle.keeping.specs.Kept.{numbersOf}
+use Rattle.cleaning.specs.Cleaning.{curveOf}
 use Rattle.stations.specs.Closest.{atClosest}
 use Rattle.stations.specs.Along.{lengthAlong}
 use Rattle.inscribed.specs.Circles.{center}

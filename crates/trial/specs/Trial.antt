@@ -1,38 +1,17 @@
--- `try_inscribed` and `inscribed_refined`, the trial. Assumes nothing.
+-- `inscribed_refined`, the trial. Assumes nothing.
 use mathlib.Core.Bool.{_||_, cond}
 use mathlib.Core.List.{List}
 use mathlib.Core.Option.{Option, some, none}
 use lib.Ieee.{Float, lt, neg}
-use Rattle.errors.specs.Answer.{Answer, result, refusal, watched, _>>=_}
+use Rattle.errors.specs.Answer.{Answer, result, watched, _>>=_}
 use Rattle.points.specs.Numbers.{_+f_, _-f_, _*f_, f0, f½}
 use Rattle.points.specs.Points.{distOf}
 use Rattle.points.specs.declared.AngleDir.the-variants.{Ccw}
 use Rattle.surface2.specs.Rays.{halfwayRay, rotatedRay, rayLine}
-use Rattle.line2.specs.declared.Line2.{Line2}
 use Rattle.surface2.specs.declared.SurfacePoint2.{SurfacePoint2}
-use Rattle.queries.specs.Crossing.{crossingOf}
-use Rattle.queries.specs.declared.Crossing.{Crossing}
 use Rattle.inscribed.specs.Circles.{center, camberPoint}
-use Rattle.halving.specs.Halving.{fromCrossing}
 use Rattle.inscribed.specs.declared.Inscribed.{Inscribed}
-
--- `try_inscribed`: none where the line has no crossing
-unfoldable pub circleOn : List Float → Float → Option Crossing → Answer (Option Inscribed)
-circleOn ns tol none = result none
-circleOn ns tol (some c) = fromCrossing ns tol c >>= λ circle. result (some circle)
-
-unfoldable pub tryInscribed : List Float → Float → Line2 → Answer (Option Inscribed)
-unfolding circleOn
-tryInscribed ns tol l = crossingOf ns l >>= circleOn ns tol
-
--- 8: "a line asked for directly .. has not exactly two hits"
-abbrev pub orNoCircle : Option Inscribed → Answer Inscribed
-orNoCircle none = refusal 8
-orNoCircle (some c) = result c
-
--- the circle on a line that must have a crossing (8): its halving may be 10 or 12
-unfoldable pub inscribedOn : List Float → Float → Line2 → Answer Inscribed
-inscribedOn ns tol l = tryInscribed ns tol l >>= orNoCircle
+use Rattle.tryline.specs.TryInscribed.{tryInscribed}
 
 -- the size of x, and the greater of two
 abbrev pub sizeOf : Float → Float

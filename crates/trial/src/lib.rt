@@ -1,53 +1,16 @@
 // The trial between two circles.
-use errors::Refusal;
 use errors::ScalarAnswer;
 use inscribed::Inscribed;
-use inscribed::InscribedAnswer;
-use line2::Line2;
 use points::AngleDir;
-use queries::CrossingAnswer;
 use surface2::SurfacePoint2;
 use surface2::SurfacePointAnswer;
+use tryline::TriedAnswer;
 ghost use mathlib.Core.Path.{_≡_};
 ghost use mathlib.Core.Option.{some};
 ghost use Rattle.curve2.specs.Entry.{HasPoints};
-ghost use Rattle.inscribed.specs.Circles.{listedInscribed};
-ghost use Rattle.trial.specs.Trial.{tryInscribed, inscribedOn, sizeOf, greater, judged, trial};
-ghost use Rattle.trial.specs.Tried.{listedTried, triedOn};
-
-// A circle, none, or a refusal.
-pub enum TriedAnswer {
-    Value(Inscribed),
-    Nothing,
-    Refused(Refusal),
-}
-
-// The circle on a line: none where the line has no crossing.
-pub fn try_inscribed(section: &[f64], tol: f64, line: Line2) -> TriedAnswer
-    requires { ⌜ HasPoints (now section) ⌝ }
-    ensures { λ r. ⌜ listedTried r ≡ tryInscribed (now (section .entry)) tol line ⌝ }
-{
-    match queries::crossings::crossing_line(section, line) {
-        CrossingAnswer::Value(k) => match halving::from_crossing(section, tol, k) {
-            InscribedAnswer::Value(c) => TriedAnswer::Value(c),
-            InscribedAnswer::Refused(r) => TriedAnswer::Refused(r),
-        },
-        CrossingAnswer::Missed => TriedAnswer::Nothing,
-        CrossingAnswer::Refused(r) => TriedAnswer::Refused(r),
-    }
-}
-
-// The circle on a line: 8 where the line has not exactly two hits.
-pub fn inscribed_on(section: &[f64], tol: f64, line: Line2) -> InscribedAnswer
-    requires { ⌜ HasPoints (now section) ⌝ }
-    ensures { λ r. ⌜ listedInscribed r ≡ inscribedOn (now (section .entry)) tol line ⌝ }
-{
-    match try_inscribed(section, tol, line) {
-        TriedAnswer::Value(c) => InscribedAnswer::Value(c),
-        TriedAnswer::Nothing => InscribedAnswer::Refused(Refusal::NoCrossing),
-        TriedAnswer::Refused(r) => InscribedAnswer::Refused(r),
-    }
-}
+ghost use Rattle.tryline.specs.TryInscribed.{listedTried};
+ghost use Rattle.trial.specs.Trial.{sizeOf, greater, judged, trial};
+ghost use Rattle.trial.specs.Tried.{triedOn};
 
 fn size_of(x: f64) -> f64
     ensures { λ r. ⌜ r ≡ sizeOf x ⌝ }
@@ -105,7 +68,7 @@ fn refined_on(
 {
     let turned = ray.normal_rotated_90(AngleDir::Ccw);
     let line = turned.to_line();
-    match try_inscribed(section, tol, line) {
+    match tryline::try_inscribed(section, tol, line) {
         TriedAnswer::Value(c) => judged(tol, a, b, ray, c),
         TriedAnswer::Nothing => TriedAnswer::Nothing,
         TriedAnswer::Refused(r) => TriedAnswer::Refused(r),

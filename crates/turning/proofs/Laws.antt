@@ -10,7 +10,7 @@ use Rattle.inscribed.specs.Circles.{reversedPoints}
 use Rattle.inscribed.specs.Store.{circleAt, circlesOf, allNumbers, numbersOf, stored}
 use Rattle.inscribed.specs.Parts.{withCircle}
 use Rattle.inscribed.specs.declared.Inscribed.{Inscribed}
-use Rattle.inscribed.proofs.StoreLaws.{length-all, length-circles, circles-of-stored, circle-of-stored, stored-again, stored-longer}
+use Rattle.inscribed.proofs.StoreLaws.{length-all, numbers-append, length-circles, circles-of-stored, circle-of-stored, stored-again, stored-longer}
 use Rattle.turning.specs.Turned.{turned}
 
 -- ---- lists
@@ -30,11 +30,6 @@ snoc-of x (y ∷ ys) = let s = snoc-of y ys in record { before = x ∷ s .before
 
 -- ---- one circle in the middle of a store
 
-all-append : (xs ys : List Inscribed) → allNumbers (xs ++ ys) ≡ allNumbers xs ++ allNumbers ys
-unfolding allNumbers
-all-append [] ys = refl
-all-append (x ∷ xs) ys = ap (λ (l : List Float). numbersOf x ++ l) (all-append xs ys) ∙ sym (append-assoc (numbersOf x) (allNumbers xs) (allNumbers ys))
-
 put-among : (xs : List Inscribed) (x c : Inscribed) (ys : List Inscribed) (rest : List Float)
     → take (length xs * 7) (allNumbers xs ++ (allNumbers (x ∷ ys) ++ rest)) ++ numbersOf c ++ drop (length xs * 7 + 7) (allNumbers xs ++ (allNumbers (x ∷ ys) ++ rest))
     ≡ allNumbers xs ++ (allNumbers (c ∷ ys) ++ rest)
@@ -49,7 +44,7 @@ unfolding withCircle stored
 put-stored xs x c ys old =
     let same : 7 * length (xs ++ c ∷ ys) ≡ 7 * length (xs ++ x ∷ ys) = omega (arith, length-append xs (c ∷ ys), length-append xs (x ∷ ys)) in
     let rest = drop (7 * length (xs ++ x ∷ ys)) old in
-    rw (same, all-append xs (x ∷ ys), all-append xs (c ∷ ys), append-assoc (allNumbers xs) (allNumbers (x ∷ ys)) rest, append-assoc (allNumbers xs) (allNumbers (c ∷ ys)) rest)
+    rw (same, numbers-append xs (x ∷ ys), numbers-append xs (c ∷ ys), append-assoc (allNumbers xs) (allNumbers (x ∷ ys)) rest, append-assoc (allNumbers xs) (allNumbers (c ∷ ys)) rest)
     (put-among xs x c ys rest)
 
 get-stored : (xs : List Inscribed) (x : Inscribed) (ys : List Inscribed) (old : List Float) → circleAt (stored (xs ++ x ∷ ys) old) (length xs) ≡ x

@@ -17,9 +17,10 @@ use Rattle.line2.specs.Intersection.{intersectionParam}
 use Rattle.line2.specs.declared.Line2.{Line2}
 use Rattle.curve2.specs.Section.{point, pointsOf, plainDist, isClosed, wholeFrom}
 use Rattle.curve2.specs.Entry.{badNumbers, notSpacedFrom, sectionEntry}
-use Rattle.cleaning.specs.Cleaning.{keptAfter, kept, endsMeet, forcedClosed, curveOf, cleaned}
-use Rattle.queries.specs.Edges.{edgesOf}
-use Rattle.queries.specs.Hits.{edgeHit, hitsFrom, inserted, sortedInto, droppedAfter, dropped}
+use Rattle.keeping.specs.Kept.{keptAfter, kept, endsMeet}
+use Rattle.cleaning.specs.Cleaning.{forcedClosed, curveOf, cleaned}
+use Rattle.hits.specs.Edges.{edgesOf}
+use Rattle.hits.specs.Hits.{edgeHit, hitsFrom, inserted, sortedInto, droppedAfter, dropped}
 use Rattle.queries.specs.Crossing.{spanOf, spanned, crossed, crossingWith}
 use Rattle.queries.specs.declared.Crossing.{Crossing}
 use Rattle.closest.specs.Nearest.{closestOnAll, leastOf, leastOfAll, nearestOf}
@@ -36,10 +37,11 @@ use Rattle.inscribed.specs.declared.Inscribed.{Inscribed}
 use Rattle.points.specs.Points.{midPointOf}
 use Rattle.line2.specs.Lines.{lineNormalized}
 use Rattle.surface2.specs.Rays.{rayNormalized, rayProjection, atDistance, shiftedRay, halfwayRay}
-use Rattle.trial.specs.Trial.{circleOn, tryInscribed, judged, trial}
+use Rattle.tryline.specs.TryInscribed.{circleOn, tryInscribed}
+use Rattle.trial.specs.Trial.{judged, trial}
 use Rattle.runs.specs.Run.{Ending, ended, spent, next, run, whole}
 use Rattle.moves.specs.Machine.{withRoom, afterTrial, refineMove, measure}
-use Rattle.refine.specs.Refinement.{refineStep}
+use Rattle.waiting.specs.Waiting.{refineStep}
 use Rattle.measures.specs.Lists.{frontAndBack, tmaxFrom, tmax}
 use Rattle.lists.specs.Asked.{storeEntry, tmaxAsked}
 use Rattle.checks.specs.Checks.{centerDot, lessForward, dirFwd, voteOf, votesFrom, dirUpper}
@@ -48,11 +50,13 @@ use Rattle.orient.specs.declared.OrientFwdAft.the-variants.{Airflow, Fwd}
 use Rattle.orient.specs.declared.OrientUpperLower.the-variants.{Upper, Lower}
 use Rattle.ends.specs.Ends.{lastPair, middleLine, facedLine, clipLine, endCamberRay}
 use Rattle.gap.specs.Gap.{gapOf, capPoint, capIntersection}
-use Rattle.probe.specs.Probe.{aheadOf, turnedTo, acrossRay, probeLine, probed}
+use Rattle.probeline.specs.Probeline.{aheadOf, turnedTo, acrossRay, probeLine}
+use Rattle.probe.specs.Probe.{probed}
 use Rattle.round.specs.Round.{FitEnd, movedPoint, afterMove, afterRefined, afterProbe, round as oneRound}
 use Rattle.rounds.specs.Rounds.{onward, rounds}
 use Rattle.openings.specs.Openings.{startOf, fitStart, fitFrom}
-use Rattle.edges.specs.Fit.{EdgeInput, FitReport, edgeEntry, fitReported, fitted, fitAfter, fitOf}
+use Rattle.fits.specs.Fitted.{FitReport, fitReported, fitted}
+use Rattle.edges.specs.Fit.{EdgeInput, edgeEntry, fitAfter, fitOf}
 
 -- what the definitions give, and what the sum says
 pub data Row : Type 1 where

@@ -2,7 +2,7 @@
 use borrow.Author.Needs.{needs}
 use native.Mathlib.Omega.{arith}
 use mathlib.Core.Path.{sym}
-use Rattle.cleaning.proofs.Keeping.{close-room, closed-count, closed-length, closed-made}
+use Rattle.cleaning.proofs.Made.{close-room, closed-count, closed-length, closed-made}
 use Rattle.cleaning.proofs.clean.Statement.{statement}
 use Rattle.cleaning.proofs.clean.Tie as tie
 

@@ -1,5 +1,5 @@
 -- `clean_points` cleans where two points or more are kept. Assumes nothing.
-use Rattle.cleaning.proofs.Keeping.{made-refused}
+use Rattle.cleaning.proofs.Made.{made-refused}
 use Rattle.cleaning.specs.Cleaning.{curveOf}
 use Rattle.errors.proofs.Laws.{told}
 use borrow.Author.Needs.{needs}

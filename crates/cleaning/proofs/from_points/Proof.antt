@@ -4,7 +4,7 @@ use Prim.Native.Nat.{_+_}
 use native.Mathlib.Omega.{arith}
 use borrow.Author.Tests.{lt-ltb, le-ltb}
 use lib.ListN.{length}
-use Rattle.cleaning.proofs.Keeping.{made-refused}
+use Rattle.cleaning.proofs.Made.{made-refused}
 use Rattle.cleaning.specs.Cleaning.{cleaned}
 use Rattle.curve2.proofs.Laws.{count-even, count-least}
 use Rattle.errors.proofs.Laws.{told}

@@ -6,9 +6,9 @@ use borrow.Author.Needs.{needs}
 use borrow.Author.Tests.{not-true, not-false}
 use lib.ListN.{length, drop}
 use lib.Dec.{ltb}
-use Rattle.cleaning.proofs.Keeping.{too-few-points, second-found, second-not-here, no-second}
-use Rattle.cleaning.specs.Keeping.{allNear}
-use Rattle.cleaning.specs.Cleaning.{kept}
+use Rattle.cleaning.proofs.Made.{too-few-points, second-found, second-not-here, no-second}
+use Rattle.keeping.specs.Keeping.{allNear}
+use Rattle.keeping.specs.Kept.{kept}
 use Rattle.curve2.specs.Section.{pointsOf}
 use Rattle.cleaning.proofs.is_too_few.Statement.{statement}
 use Rattle.cleaning.proofs.is_too_few.Tie as tie

@@ -2,7 +2,7 @@
 use mathlib.Core.Path.{sym}
 use native.Mathlib.Omega.{arith}
 use Rattle.edges.specs.Fit.{fitAfter}
-use Rattle.edges.proofs.FitLaws.{entry-points, entry-count}
+use Rattle.edges.proofs.EntryLaws.{entry-points, entry-count}
 use borrow.Author.Needs.{needs}
 use Rattle.edges.proofs.fit_open_edge.Statement.{statement}
 use Rattle.edges.proofs.fit_open_edge.Tie as tie

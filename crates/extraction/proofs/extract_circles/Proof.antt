@@ -2,7 +2,7 @@
 use mathlib.Core.Path.{sym, ap, _∙_}
 use native.Mathlib.Omega.{arith}
 use borrow.Author.Needs.{needs}
-use Rattle.halves.proofs.Laws.{marched-count, marched-units}
+use Rattle.behind.proofs.Laws.{marched-count, marched-units}
 use Rattle.extraction.proofs.Laws.{first-refused, first-spent, first-done}
 use Rattle.extraction.specs.Extraction.{extractionFrom}
 use Rattle.circles.proofs.Laws.{asked-points}

@@ -1,6 +1,6 @@
 -- `camber_curve` makes the entry tests, and cleans the centres. Assumes nothing.
 use native.Mathlib.Omega.{arith}
-use Rattle.cleaning.proofs.Keeping.{made-refused}
+use Rattle.cleaning.proofs.Made.{made-refused}
 use Rattle.geometry.specs.Camber.{camberCurve}
 use Rattle.centers.proofs.Laws.{camber-passed}
 use borrow.Author.Needs.{needs}

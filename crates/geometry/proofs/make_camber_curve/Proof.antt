@@ -1,6 +1,6 @@
 -- `make_camber_curve` makes the entry tests, and cleans the centres between the end points. Assumes nothing.
 use native.Mathlib.Omega.{arith}
-use Rattle.cleaning.proofs.Keeping.{made-refused}
+use Rattle.cleaning.proofs.Made.{made-refused}
 use Rattle.geometry.specs.Camber.{camberCurveBetween}
 use Rattle.centers.proofs.Laws.{camber-passed}
 use borrow.Author.Needs.{needs}

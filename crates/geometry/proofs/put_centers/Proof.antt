@@ -5,7 +5,7 @@ use Prim.Native.Nat.{_+_, _≤_, _-_}
 use native.Mathlib.Omega.{arith}
 use borrow.Author.Needs.{needs}
 use lib.ListN.{length}
-use Rattle.cleaning.specs.Keeping.{Held}
+use Rattle.keeping.specs.Keeping.{Held}
 use Rattle.inscribed.specs.Circles.{center}
 use Rattle.inscribed.specs.Store.{circlesFrom}
 use Rattle.geometry.specs.Camber.{centers, putAll}

@@ -6,7 +6,7 @@ use native.Mathlib.Omega.{arith}
 use borrow.Author.Needs.{needs}
 use lib.ListN.{length, take, drop}
 use Rattle.joined.proofs.Laws.{insertInto, sorted-start, first-inserted}
-use Rattle.queries.proofs.PassLaws.{passLeft, pass-refused, pass-missed, pass-hit, pass-end}
+use Rattle.hits.proofs.PassLaws.{passLeft, pass-refused, pass-missed, pass-hit, pass-end}
 use Rattle.joined.specs.Fractions.{sortedFractions}
 use Rattle.joined.proofs.sorted_hits.Statement.{statement}
 use Rattle.joined.proofs.sorted_hits.Tie as tie

@@ -1,7 +1,6 @@
 -- `tried` is the trial, with 16 and 15 after it. Assumes nothing.
 use borrow.Author.Needs.{needs}
 use borrow.Author.Tests.{le-leb, lt-leb}
-use native.Mathlib.Omega.{arith}
 use Rattle.moves.specs.Machine.{withRoom}
 use Rattle.moves.proofs.tried.Statement.{statement}
 use Rattle.moves.proofs.tried.Tie as tie

@@ -2,7 +2,7 @@
 use mathlib.Core.Path.{_≡_}
 use native.Mathlib.Omega.{arith}
 use borrow.Author.Needs.{needs}
-use Rattle.refine.proofs.RefineLaws.{empty-refused, empty-accepted}
+use Rattle.refine.proofs.EmptyLaws.{empty-refused, empty-accepted}
 use Rattle.refine.proofs.refine.Statement.{statement}
 use Rattle.refine.proofs.refine.Tie as tie
 

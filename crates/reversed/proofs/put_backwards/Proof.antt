@@ -3,8 +3,8 @@ use Prim.Native.Nat.{_+_, _*_, _%_, _≤_, _-_}
 use mathlib.Core.Path.{_≡_, refl, _∙_}
 use native.Mathlib.Omega.{arith}
 use lib.ListN.{length}
-use Rattle.cleaning.specs.Cleaning.{placed}
-use Rattle.cleaning.proofs.Keeping.{held-count, held-output}
+use Rattle.keeping.specs.Kept.{placed}
+use Rattle.cleaning.proofs.Made.{held-count, held-output}
 use Rattle.reversed.proofs.Laws.{backFrom, back-none, back-one, put-count}
 use Rattle.reversed.proofs.put_backwards.Statement.{statement}
 use Rattle.reversed.proofs.put_backwards.Tie as tie

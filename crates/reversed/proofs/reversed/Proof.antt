@@ -5,7 +5,7 @@ use mathlib.Core.Path.{sym}
 use borrow.Author.Tests.{ltb-false}
 use lib.ListN.{length}
 use Rattle.curve2.proofs.Laws.{entry-passed}
-use Rattle.cleaning.proofs.Keeping.{first-length, made-result, made-refused}
+use Rattle.cleaning.proofs.Made.{first-length, made-result, made-refused}
 use Rattle.reversed.specs.Reversed.{backwards}
 use Rattle.reversed.proofs.Laws.{room-passed, backwards-length}
 use Rattle.reversed.proofs.reversed.Statement.{statement}

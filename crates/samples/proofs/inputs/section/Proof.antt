@@ -1,5 +1,5 @@
 -- `inputs::section` writes within its array. Assumes nothing.
-use Prim.Native.Nat.{_≤_, _-_, _*_, _^_}
+use Prim.Native.Nat.{_≤_, _-_, _^_}
 use native.Mathlib.Omega.{arith}
 use borrow.Author.Needs.{needs}
 use lib.Dec.{le→leb}

@@ -1,0 +1,2 @@
+-- A run in the part of a store behind its first circles.
+pub mod Behind

@@ -1,0 +1,2 @@
+-- The fit of what was tested.
+pub mod Fitted

@@ -1,0 +1,3 @@
+-- Which points cleaning keeps, and keeping them point by point.
+pub mod Kept
+pub mod Keeping

@@ -1,0 +1,2 @@
+-- The circle on a line.
+pub mod TryInscribed

@@ -1,0 +1,2 @@
+-- The run of `refine_and_push` while circles wait.
+pub mod Waiting
