@@ -1,6 +1,6 @@
 /* Nanoseconds a square root takes: the processor's instruction, the proved root, the digit-by-digit root.
-   All three sum the roots of the same numbers; the best of twenty-five rounds counts. `root once` runs each once through `counted`,
-   for callgrind, and says in which order. */
+   All three sum the roots of the same numbers, in turn; the least time of twenty-five rounds or more, and of 1.8 seconds or more, counts.
+   `root once` runs each once through `counted`, for callgrind, and says in which order. */
 #include <math.h>
 #include <stdint.h>
 #include <stdio.h>
@@ -30,16 +30,14 @@ static double now(void) {
     return t.tv_sec * 1e9 + t.tv_nsec;
 }
 
-static double best(double (*roots)(const double *, size_t), const double *xs, size_t n, int rounds, double *sum) {
-    double least = 1e18;
-    for (int round = 0; round < rounds; round++) {
-        double start = now();
-        *sum = counted(roots, xs, n);
-        double ns = (now() - start) / n;
-        if (ns < least)
-            least = ns;
-    }
-    return least;
+/* One more round of one program; the least time of its rounds is kept. */
+static double once_more(double (*roots)(const double *, size_t), const double *xs, size_t n, double *least) {
+    double start = now();
+    double sum = counted(roots, xs, n);
+    double ns = (now() - start) / n;
+    if (ns < *least)
+        *least = ns;
+    return sum;
 }
 
 #define N 65536
@@ -57,10 +55,13 @@ int main(int argc, char **argv) {
         uint64_t bits = (x & 0x000fffffffffffffu) | (((x >> 52) % 1024 + 511) << 52);
         memcpy(&xs[i], &bits, 8);
     }
-    double a, b, c;
-    double proved = best(bench_roots, xs, N, rounds, &a);
-    double digits = best(bench_roots_by_digits, xs, N, rounds, &b);
-    double processor = best(by_processor, xs, N, rounds, &c);
+    double a = 0, b = 0, c = 0, proved = 1e18, digits = 1e18, processor = 1e18;
+    double start = now();
+    for (int round = 0; round < rounds || (!once && now() - start < 1.8e9); round++) {
+        a = once_more(bench_roots, xs, N, &proved);
+        b = once_more(bench_roots_by_digits, xs, N, &digits);
+        c = once_more(by_processor, xs, N, &processor);
+    }
     if (a != b || a != c) {
         printf("the sums differ\n");
         return 1;
