@@ -1,5 +1,5 @@
 // The sample that crates/cases replays: inputs from one seed each, and the checksums of the published functions' answers to them.
-// The steps of `section` and `args` are those of crates/samples/src/inputs.rt, number for number.
+// The steps of `section` and `args` are those of crates/cases/src/samples/inputs.rt, number for number.
 use crate::port::Call;
 use crate::{Wanted, circle_numbers, is_added, port, wanted};
 
@@ -143,7 +143,7 @@ fn answer(kind: u64, seed: u64) -> Option<Left> {
     Some(left)
 }
 
-// What is asked, by kind: the functions' names, as crates/replay has them.
+// What is asked, by kind: the functions' names, as crates/cases/src/replay.rt has them.
 const NAMES: [&str; KINDS as usize] = [
     "crossing_line",
     "try_inscribed",

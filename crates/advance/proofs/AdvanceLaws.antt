@@ -8,21 +8,21 @@ use native.Mathlib.Omega.{arith}
 use borrow.Author.Tests.{le-leb, lt-leb}
 use lib.Ieee.{Float, lt}
 use Rattle.errors.specs.Answer.{Answer, result, refusal}
-use Rattle.errors.specs.Refusals.{numberOf}
 use Rattle.errors.specs.declared.Refusal.{Refusal}
-use Rattle.surface2.specs.declared.SurfacePoint2.{SurfacePoint2}
+use Rattle.line2.specs.declared.surface2.SurfacePoint2.{SurfacePoint2}
 use Rattle.queries.specs.Crossing.{listedCrossing}
 use Rattle.queries.specs.declared.Crossing.{Crossing}
 use Rattle.queries.specs.declared.CrossingAnswer.{CrossingAnswer}
-use Rattle.runs.specs.Run.{ended, spent, under}
+use Rattle.runs.specs.Run.{ended, spent, underLimit}
 use Rattle.inscribed.specs.declared.Inscribed.{Inscribed}
 use Rattle.halving.specs.Halving.{fromCrossing}
-use Rattle.moves.specs.Machine.{finished}
-use Rattle.steps.specs.Steps.{stepOf, triedLine}
-use Rattle.advance.specs.Outcome.{Outcome, ending, circleOutcome, triesFrom, unitsOf}
+use Rattle.refine.specs.Machine.{finished}
+use Rattle.advance.specs.Advance.{stepOf, triedLine}
+use Rattle.advance.specs.Code.{Outcome, ending, circleOutcome, triesFrom, outcomeUnits}
+use Rattle.errors.specs.declared.Refusal.the-variants.{NoAdvance}
 
 -- ---- the loop over the fractions
-module _ (ns : List Float) (tol : Float) (c : Inscribed) (ray : SurfacePoint2) (limit k u : ℕ) (whole : Outcome) (inv : triesFrom ns tol c ray (under limit) (4 - k) k u ≡ whole) where
+module _ (ns : List Float) (tol : Float) (c : Inscribed) (ray : SurfacePoint2) (limit k u : ℕ) (whole : Outcome) (inv : triesFrom ns tol c ray (underLimit limit) (4 - k) k u ≡ whole) where
   module _ (few : k < 4) where
     one-more : 4 - k ≡ suc (4 - (k + 1))
     one-more = omega arith
@@ -37,7 +37,7 @@ module _ (ns : List Float) (tol : Float) (c : Inscribed) (ray : SurfacePoint2) (
       tries-spent h = rw (one-more, long, le-leb limit u h) at inv
 
       module _ (free : u < limit) (r : CrossingAnswer) (is : listedCrossing r ≡ triedLine ns c ray k) where
-        pub tries-refused : (x : Refusal) → r ≡ CrossingAnswer.Refused x → ending (ended (refusal (numberOf x))) (u + 1) ≡ whole
+        pub tries-refused : (x : Refusal) → r ≡ CrossingAnswer.Refused x → ending (ended (refusal x)) (u + 1) ≡ whole
         unfolding triesFrom
         tries-refused x e = rw (add-one u) (rw (one-more, long, lt-leb limit u free, ← (rw e at is)) at inv)
 
@@ -45,16 +45,16 @@ module _ (ns : List Float) (tol : Float) (c : Inscribed) (ray : SurfacePoint2) (
         unfolding triesFrom
         tries-found x e = rw (add-one u) (rw (one-more, long, lt-leb limit u free, ← (rw e at is)) at inv)
 
-        pub tries-missed : r ≡ CrossingAnswer.Missed → triesFrom ns tol c ray (under limit) (4 - (k + 1)) (k + 1) (u + 1) ≡ whole
+        pub tries-missed : r ≡ CrossingAnswer.Missed → triesFrom ns tol c ray (underLimit limit) (4 - (k + 1)) (k + 1) (u + 1) ≡ whole
         unfolding triesFrom
         tries-missed e = rw (add-one u, add-one k) (rw (one-more, long, lt-leb limit u free, ← (rw e at is), add-one k) at inv)
 
-  pub tries-over : 4 ≤ k → ending (ended (refusal 13)) u ≡ whole
+  pub tries-over : 4 ≤ k → ending (ended (refusal NoAdvance)) u ≡ whole
   unfolding triesFrom
   tries-over h = let none : 4 - k ≡ 0 = omega arith in rw none at inv
 
 -- a circle's units are those handed on
-pub circle-units : (u : ℕ) (a : Answer Inscribed) → unitsOf (circleOutcome u a) ≡ u
+pub circle-units : (u : ℕ) (a : Answer Inscribed) → outcomeUnits (circleOutcome u a) ≡ u
 unfolding circleOutcome
 circle-units u (result d) = refl
 circle-units u (refusal n) = refl

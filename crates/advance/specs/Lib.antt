@@ -1,2 +1,3 @@
 -- One advance along the camber line: `advance_search`.
-pub mod Outcome
+pub mod Advance
+pub mod Code

@@ -1,13 +1,18 @@
 // Loops over the library that bench/ times, for a program in another language to call.
-use closest::NearestAnswer;
+use camber::extraction;
+use curve2::entering;
+use edges::FitAnswer;
+use gap::EdgeEnd;
+use gap::EdgeFit;
 use line2::Line2;
-use moves::Run;
-use moves::RunEnd;
 use points::Point2;
 use points::Vector2;
 use queries::CrossingAnswer;
-use round::EdgeEnd;
-use round::EdgeFit;
+use queries::NearestAnswer;
+use refine::Run;
+use refine::RunAnswer;
+use refine::RunEnd;
+use root::digits;
 ghost use Prim.Native.Nat.{_+_, _<_};
 ghost use lib.ListN.{length};
 ghost use Rattle.curve2.specs.Entry.{HasPoints};
@@ -39,7 +44,7 @@ pub extern "C" fn bench_roots_by_digits(xs: &[f64]) -> f64 {
 // The sum of the squared distances of points from a section. A section without whole points has none.
 #[no_mangle]
 pub extern "C" fn bench_nearest(section: &[f64], ps: &[f64]) -> f64 {
-    if entry::is_bad_count(4096, section.len()) {
+    if entering::is_bad_count(4096, section.len()) {
         return 0.0;
     }
     let mut sum: f64 = 0.0;
@@ -55,7 +60,7 @@ pub extern "C" fn bench_nearest(section: &[f64], ps: &[f64]) -> f64 {
 fn square_from(section: &[f64], x: f64, y: f64) -> f64
     requires { ⌜ HasPoints (now section) ⌝ }
 {
-    match closest::closest_point(section, Point2 { x, y }) {
+    match queries::checked::closest_point(section, Point2 { x, y }) {
         NearestAnswer::Value(n) => {
             let at = n.at;
             at.square
@@ -67,7 +72,7 @@ fn square_from(section: &[f64], x: f64, y: f64) -> f64
 // The sum of the crossings' widths of lines, each four numbers, with a section.
 #[no_mangle]
 pub extern "C" fn bench_crossings(section: &[f64], lines: &[f64]) -> f64 {
-    if entry::is_bad_count(4096, section.len()) {
+    if entering::is_bad_count(4096, section.len()) {
         return 0.0;
     }
     let mut sum: f64 = 0.0;
@@ -99,7 +104,7 @@ fn line_at(numbers: &[f64], i: usize) -> Line2
 fn width_of(section: &[f64], line: Line2) -> f64
     requires { ⌜ HasPoints (now section) ⌝ }
 {
-    match queries::crossings::crossing_line(section, line) {
+    match queries::checked::crossing_line(section, line) {
         CrossingAnswer::Value(c) => {
             let k = c.line;
             let d = k.direction;
@@ -141,7 +146,14 @@ pub extern "C" fn bench_extraction(section: &[f64], line: &[f64], store: &mut [f
     units_of(run)
 }
 
-fn units_of(run: Run) -> u32 {
+fn units_of(answer: RunAnswer) -> u32 {
+    match answer {
+        RunAnswer::Ran(run) => finished_units(run),
+        RunAnswer::Refused(_) => 0,
+    }
+}
+
+fn finished_units(run: Run) -> u32 {
     let end = run.end;
     match end {
         RunEnd::Finished => run.units,
@@ -159,8 +171,10 @@ pub extern "C" fn bench_open_edge(
     store: &mut [f64],
     out: &mut [f64],
 ) -> u32 {
-    let fit = edges::fit_open_edge(section, T, G, store, count, at_front != 0, 4_294_967_295);
-    fitted_units(fit, out)
+    match edges::fit_open_edge(section, T, G, store, count, at_front != 0, 4_294_967_295) {
+        FitAnswer::Ran(fit) => fitted_units(fit, out),
+        FitAnswer::Refused(_) => 0,
+    }
 }
 
 fn fitted_units(fit: EdgeFit, out: &mut [f64]) -> u32 {

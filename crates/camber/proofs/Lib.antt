@@ -3,3 +3,4 @@ pub mod MarchMachine
 pub mod MarchLaw
 pub mod MarchLoop
 pub mod MarchFrom
+pub mod PartLaws

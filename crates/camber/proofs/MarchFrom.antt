@@ -7,29 +7,28 @@ use lib.ListN.{length}
 use lib.Ieee.{Float}
 use Rattle.errors.specs.Lists.{lastOf}
 use Rattle.errors.specs.declared.Refusal.{Refusal}
-use Rattle.runs.specs.Run.{ended, Out, under}
+use Rattle.runs.specs.Run.{ended, Final, underLimit}
 use Rattle.inscribed.specs.Store.{circleAt, circlesFrom, circlesOf, allNumbers, stored}
 use Rattle.inscribed.specs.declared.Inscribed.{Inscribed}
 use Rattle.inscribed.proofs.StoreLaws.{length-circles, circles-of-stored}
-use Rattle.moves.specs.Machine.{State, refining, advancing, circlesIn, End, finished}
-use Rattle.moves.specs.Report.{Report, reported, listedEnd, listedRun}
-use Rattle.waiting.specs.Waiting.{refineRun}
-use Rattle.moves.specs.declared.Run.{Run}
-use Rattle.moves.specs.declared.RunEnd.{RunEnd}
-use Rattle.waiting.proofs.RefineLaws.{last-stored}
+use Rattle.refine.specs.Machine.{State, refining, advancing, circlesIn, End, finished, refineRun}
+use Rattle.refine.specs.Report.{RunReport, reported, listedEnd, listedRun}
+use Rattle.refine.specs.declared.Run.{Run}
+use Rattle.refine.specs.declared.RunEnd.{RunEnd}
+use Rattle.refine.proofs.RefineLaws.{last-stored}
 use Rattle.refine.proofs.RefinedLaws.{refined-fits, refined-units, refined-done, refined-report}
 use Rattle.camber.specs.March.{marchRun}
-use Rattle.advance.specs.Outcome.{Outcome, ending, going, advanceOutcome, listedAdvanced}
+use Rattle.advance.specs.Code.{Outcome, ending, going, advanceOutcome, listedAdvanced}
 use Rattle.advance.specs.declared.Advanced.{Advanced}
 use Rattle.camber.proofs.MarchLoop.{outcomeReport, advance-outcome, refined-on, refined-ends}
 
-module _ (ns : List Float) (tol : Float) (slots limit : ℕ) (old : List Float) (target : Report) where
+module _ (ns : List Float) (tol : Float) (slots limit : ℕ) (old : List Float) (target : RunReport) where
   -- a circle waits alone
   pub record Waits (store : List Float) (n : ℕ) (next : Inscribed) (u : ℕ) : Type 0 where
     pub fits : n ≤ slots
     pub within : u ≤ limit
     pub holds : store ≡ stored (circlesOf store n) old
-    pub left : reported old (marchRun ns tol slots (under limit) (refining (circlesOf store n) (next ∷ [])) u) ≡ target
+    pub left : reported old (marchRun ns tol slots (underLimit limit) (refining (circlesOf store n) (next ∷ [])) u) ≡ target
 
   -- none waits
   pub record Ready (store : List Float) (n u : ℕ) : Type 0 where
@@ -39,18 +38,18 @@ module _ (ns : List Float) (tol : Float) (slots limit : ℕ) (old : List Float) 
     pub fits : n ≤ slots
     pub within : u ≤ limit
     pub holds : store ≡ stored (first ∷ others) old
-    pub left : outcomeReport ns tol slots limit old (first ∷ others) (advanceOutcome ns tol (lastOf first others) (under limit) u) ≡ target
+    pub left : outcomeReport ns tol slots limit old (first ∷ others) (advanceOutcome ns tol (lastOf first others) (underLimit limit) u) ≡ target
 
   module _ (store : List Float) (n : ℕ) (next : Inscribed) (u : ℕ) (w : Waits store n next u) (r : Run) (after : List Float)
-      (is : listedRun r after ≡ reported store (refineRun ns tol slots (under limit) (circlesOf store n) (next ∷ []) u)) where
+      (is : listedRun r after ≡ reported store (refineRun ns tol slots (underLimit limit) (circlesOf store n) (next ∷ []) u)) where
     abbrev cs : List Inscribed
     cs = circlesOf store n
 
     fits-list : length cs ≤ slots
     fits-list = omega (arith, length-circles store 0 n, w .fits)
 
-    abbrev refined : Out State End
-    refined = refineRun ns tol slots (under limit) cs (next ∷ []) u
+    abbrev refined : Final State End
+    refined = refineRun ns tol slots (underLimit limit) cs (next ∷ []) u
 
     -- the report over the store that the march began with
     over-old : listedRun r after ≡ reported old refined
@@ -58,10 +57,10 @@ module _ (ns : List Float) (tol : Float) (slots limit : ℕ) (old : List Float) 
 
     ending-is : listedEnd (r .end) ≡ refined .ending
     unfolding reported
-    ending-is = ap (λ (x : Report). x .ending) over-old
+    ending-is = ap (λ (x : RunReport). x .ending) over-old
 
     pub waits-ends : (listedEnd (r .end) ≡ ended finished → ⊥) → listedRun r after ≡ target
-    waits-ends f = over-old ∙ ap (λ (x : Out State End). reported old x) (sym (refined-ends ns tol slots limit old cs next u fits-list (w .within) (λ e. f (ending-is ∙ e)))) ∙ w .left
+    waits-ends f = over-old ∙ ap (λ (x : Final State End). reported old x) (sym (refined-ends ns tol slots limit old cs next u fits-list (w .within) (λ e. f (ending-is ∙ e)))) ∙ w .left
 
     module _ (e : listedEnd (r .end) ≡ ended finished) where
       abbrev ds : List Inscribed
@@ -69,15 +68,15 @@ module _ (ns : List Float) (tol : Float) (slots limit : ℕ) (old : List Float) 
 
       count-is : r .count ≡ length ds
       unfolding reported
-      count-is = ap (λ (x : Report). x .count) over-old
+      count-is = ap (λ (x : RunReport). x .count) over-old
 
       units-is : r .units ≡ refined .units
       unfolding reported
-      units-is = ap (λ (x : Report). x .units) over-old
+      units-is = ap (λ (x : RunReport). x .units) over-old
 
       store-is : after ≡ stored ds old
       unfolding reported
-      store-is = ap (λ (x : Report). x .store) over-old
+      store-is = ap (λ (x : RunReport). x .store) over-old
 
       refined-ended : refined .ending ≡ ended finished
       refined-ended = sym ending-is ∙ e
@@ -85,10 +84,10 @@ module _ (ns : List Float) (tol : Float) (slots limit : ℕ) (old : List Float) 
       pub waits-grown : n < r .count
       waits-grown = omega (arith, count-is, length-circles store 0 n, refined-done ns tol slots limit old cs next u fits-list (w .within) refined-ended .grown)
 
-      on : reported old (marchRun ns tol slots (under limit) (advancing ds 0) (r .units)) ≡ target
-      on = rw units-is (ap (λ (x : Out State End). reported old x) (sym (refined-on ns tol slots limit old cs next u fits-list (w .within) refined-ended)) ∙ w .left)
+      on : reported old (marchRun ns tol slots (underLimit limit) (advancing ds 0) (r .units)) ≡ target
+      on = rw units-is (ap (λ (x : Final State End). reported old x) (sym (refined-on ns tol slots limit old cs next u fits-list (w .within) refined-ended)) ∙ w .left)
 
-      ready-of : (xs : List Inscribed) → r .count ≡ length xs → after ≡ stored xs old → reported old (marchRun ns tol slots (under limit) (advancing xs 0) (r .units)) ≡ target → Ready after (r .count) (r .units)
+      ready-of : (xs : List Inscribed) → r .count ≡ length xs → after ≡ stored xs old → reported old (marchRun ns tol slots (underLimit limit) (advancing xs 0) (r .units)) ≡ target → Ready after (r .count) (r .units)
       ready-of [] c s l = absurd (omega (arith, c, waits-grown))
       ready-of (x ∷ xs) c s l = record {
         first = x;
@@ -107,11 +106,11 @@ module _ (ns : List Float) (tol : Float) (slots limit : ℕ) (old : List Float) 
     ready-last : circleAt store (n - 1) ≡ lastOf (is .first) (is .others)
     ready-last = last-stored store old n (is .first ∷ is .others) (is .first) (is .others) (is .holds) refl (sym (is .counted))
 
-    module _ (a : Advanced) (said : listedAdvanced a ≡ advanceOutcome ns tol (circleAt store (n - 1)) (under limit) u) where
+    module _ (a : Advanced) (said : listedAdvanced a ≡ advanceOutcome ns tol (circleAt store (n - 1)) (underLimit limit) u) where
       outcome-is : outcomeReport ns tol slots limit old (is .first ∷ is .others) (listedAdvanced a) ≡ target
-      outcome-is = ap (λ (o : Outcome). outcomeReport ns tol slots limit old (is .first ∷ is .others) o) (said ∙ ap (λ (c : Inscribed). advanceOutcome ns tol c (under limit) u) ready-last) ∙ is .left
+      outcome-is = ap (λ (o : Outcome). outcomeReport ns tol slots limit old (is .first ∷ is .others) o) (said ∙ ap (λ (c : Inscribed). advanceOutcome ns tol c (underLimit limit) u) ready-last) ∙ is .left
 
-      pub ready-ends : (e : RunEnd) (v : ℕ) → listedAdvanced a ≡ ending (listedEnd e) v → _≡_ {A = Report} (record { ending = listedEnd e; count = n; units = v; store = store }) target
+      pub ready-ends : (e : RunEnd) (v : ℕ) → listedAdvanced a ≡ ending (listedEnd e) v → _≡_ {A = RunReport} (record { ending = listedEnd e; count = n; units = v; store = store }) target
       ready-ends e v q = rw (is .holds, is .counted) (rw q at outcome-is)
 
       pub ready-next : (d : Inscribed) (v : ℕ) → listedAdvanced a ≡ going d v → v ≤ limit → Waits store n d v
@@ -120,7 +119,7 @@ module _ (ns : List Float) (tol : Float) (slots limit : ℕ) (old : List Float) 
           record { fits = is .fits; within = h; holds = rw same (is .holds); left = rw same (rw q at outcome-is) }
 
 pub waits-start : (ns : List Float) (tol : Float) (slots limit : ℕ) (old : List Float) (c : Inscribed) (u : ℕ) → u ≤ limit
-    → Waits ns tol slots limit old (reported old (marchRun ns tol slots (under limit) (refining [] (c ∷ [])) u)) old 0 c u
+    → Waits ns tol slots limit old (reported old (marchRun ns tol slots (underLimit limit) (refining [] (c ∷ [])) u)) old 0 c u
 unfolding circlesFrom stored allNumbers
 waits-start ns tol slots limit old c u h = record { fits = omega arith; within = h; holds = refl; left = refl }
 

@@ -1,2 +1,3 @@
--- The march along the camber line: `extract_half_circles`.
+-- The march along the camber line, `extract_half_circles`, and the extraction by two of them.
 pub mod March
+pub mod Extraction

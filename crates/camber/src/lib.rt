@@ -1,2 +1,4 @@
-// The march along the camber line.
+// The march along the camber line, and the extraction by two of them.
+pub mod extraction;
+mod halves;
 pub mod march;

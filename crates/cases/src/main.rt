@@ -1,5 +1,11 @@
 // Runs the worked cases and the outside vectors. They stand in a table, the file `stdin` beside this folder, whose first lines say how it is read.
 // Of each case this program says whether all of its lines came out right, and it shows each line that didn't.
+mod bits;
+mod buffers;
+mod replay;
+mod samples;
+mod script;
+mod tables;
 
 const NEW_LINE: u8 = 10;
 

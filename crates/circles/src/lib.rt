@@ -1,30 +1,41 @@
 // What is asked of a section with a general tolerance. Each function makes the entry tests, and then its step.
+pub mod checked;
+
 use curve2::AlsoBad;
 use curve2::Entry;
+use curve2::entering;
+use halving::TriedAnswer;
 use inscribed::Inscribed;
 use inscribed::InscribedAnswer;
 use line2::Line2;
 use queries::Crossing;
-use tryline::TriedAnswer;
 ghost use mathlib.Core.Path.{_≡_};
 ghost use mathlib.Core.Bool.{_||_};
 ghost use Rattle.curve2.specs.Entry.{listedEntry};
 ghost use Rattle.inscribed.specs.Circles.{listedInscribed};
 ghost use Rattle.inscribed.specs.Store.{badCircle};
-ghost use Rattle.tryline.specs.TryInscribed.{listedTried};
-ghost use Rattle.circles.specs.Asked.{circleEntry, fromCrossingAsked, tryAsked, trialAsked};
+ghost use Rattle.halving.specs.Halving.{listedTried};
+ghost use Rattle.circles.specs.Asked.{circleEntry, lineEntry, fromCrossingAsked, tryAsked, trialAsked};
 
 // The entry tests, with whether a number of the other arguments is bad.
 fn entered(section: &[f64], section_tol: f64, tol: f64, number: bool) -> Entry
     ensures { λ r. ⌜ listedEntry r ≡ circleEntry (now (section .entry)) «section_tol» tol number ⌝ }
 {
-    let tolerance = entry::is_bad_general(tol);
+    let tolerance = entering::is_bad_general(tol);
     let also = AlsoBad {
         number,
         tolerance,
         room: false,
     };
-    entry::section_entry(section, section_tol, also)
+    entering::section_entry(section, section_tol, also)
+}
+
+// The entry tests of a line.
+pub fn line_entry(section: &[f64], section_tol: f64, tol: f64, line: Line2) -> Entry
+    ensures { λ r. ⌜ listedEntry r ≡ lineEntry (now (section .entry)) «section_tol» tol line ⌝ }
+{
+    let finite = sections::is_finite_line(line);
+    entered(section, section_tol, tol, !finite)
 }
 
 // Whether a number of either circle is bad.
@@ -46,11 +57,10 @@ pub fn inscribed_from_crossing(
 ) -> InscribedAnswer
     ensures { λ r. ⌜ listedInscribed r ≡ fromCrossingAsked (now (section .entry)) «section_tol» tol line ⌝ }
 {
-    let good = sections::is_finite_line(line);
-    match entered(section, section_tol, tol, !good) {
+    match line_entry(section, section_tol, tol, line) {
         Entry::Passed => {
             let crossing = Crossing { line };
-            halving::from_crossing(section, tol, crossing)
+            halving::checked::from_crossing(section, tol, crossing)
         }
         Entry::Refused(r) => InscribedAnswer::Refused(r),
     }
@@ -60,9 +70,8 @@ pub fn inscribed_from_crossing(
 pub fn try_inscribed(section: &[f64], section_tol: f64, tol: f64, line: Line2) -> InscribedAnswer
     ensures { λ r. ⌜ listedInscribed r ≡ tryAsked (now (section .entry)) «section_tol» tol line ⌝ }
 {
-    let finite = sections::is_finite_line(line);
-    match entered(section, section_tol, tol, !finite) {
-        Entry::Passed => tryline::inscribed_on(section, tol, line),
+    match line_entry(section, section_tol, tol, line) {
+        Entry::Passed => halving::checked::inscribed_on(section, tol, line),
         Entry::Refused(r) => InscribedAnswer::Refused(r),
     }
 }
@@ -79,7 +88,7 @@ pub fn inscribed_refined(
 {
     let number = is_bad_pair(a, b);
     match entered(section, section_tol, tol, number) {
-        Entry::Passed => trial::inscribed_refined(section, tol, a, b),
+        Entry::Passed => checked::inscribed_refined(section, tol, a, b),
         Entry::Refused(r) => TriedAnswer::Refused(r),
     }
 }

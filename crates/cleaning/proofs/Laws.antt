@@ -2,7 +2,7 @@
 use mathlib.Core.Path.{_≡_, refl, sym, _∙_}
 use mathlib.Core.Bool.{Bool, true, false, not, _||_, cond}
 use mathlib.Core.List.{List, [], _∷_, _++_}
-use Prim.Native.Nat.{ℕ, _+_, _*_, _%_, _≤_}
+use Prim.Native.Nat.{ℕ, _+_, _*_, _/_, _%_, _≤_}
 use native.Mathlib.Omega.{arith}
 use borrow.Author.Tests.{eq-eqb, le-ltb, ltb-false}
 use lib.Dec.{ltb, lit≤}
@@ -10,16 +10,22 @@ use lib.ListN.{length}
 use lib.Ieee.{Float, le}
 use Rattle.errors.specs.Answer.{Answer, result, refusal, _>>=_}
 use Rattle.errors.specs.Lists.{lastOf}
-use Rattle.points.specs.Numbers.{f0}
 use Rattle.points.specs.declared.Point2.{Point2}
-use Rattle.curve2.specs.Section.{pointsOf, plainDist, nextLength}
-use Rattle.curve2.specs.Entry.{badCount, inRange, badNumbers, badTolerance, notSpacedFrom, IsSection}
-use Rattle.curve2.proofs.Laws.{count-even, count-least, count-most, has-points}
-use Rattle.keeping.specs.Kept.{kept, keptAfter, endsMeet, numbersOf}
-use Rattle.keeping.proofs.Numbers.{numbers-length, numbers-points, points-numbers}
-use Rattle.cleaning.specs.Cleaning.{forcedClosed, closing, curveOf, cleaningEntry, cleaned}
-use Rattle.cleaning.specs.Curves.{crowded, notRisingFrom, IsCurve}
-use Rattle.cleaning.proofs.Made.{all-passed, closing-count, kept-most}
+use Rattle.curve2.specs.Section.{pointsOf, plainDist, endsMeet, lengthsOf}
+use Rattle.curve2.specs.Entry.{mostPoints, badCount, inRange, badNumbers, badTolerance, crowded, notRising, IsSection}
+use Rattle.curve2.proofs.Laws.{none-bad, count-even, count-least, count-most, has-points}
+use Rattle.cleaning.specs.Cleaning.{kept, keptAfter, pointNumbers, forcedClosed, closing, curveOf, mostCleaned, cleaningEntry, cleaned}
+use Rattle.cleaning.proofs.Numbers.{numbers-length, numbers-points, points-numbers}
+use Rattle.cleaning.proofs.Made.{closing-count, kept-most}
+use Rattle.errors.specs.declared.Refusal.the-variants.{BadNumber, NoRoom, PointCount, Tolerance, TooFewKept}
+
+-- It passes the entry tests 1 to 3, and 6 as far as neighbouring points go.
+pub record IsCurve (ps : List Point2) (tol : Float) : Type 0 where
+  pub count : badCount mostPoints (length (pointNumbers ps)) ≡ false
+  pub numbers : badNumbers (pointNumbers ps) ≡ false
+  pub tolerance : badTolerance tol ≡ false
+  pub points : pointsOf (pointNumbers ps) ≡ ps
+  pub apart : crowded tol ps ≡ false
 
 neither : (a b : Bool) → (a || b) ≡ false → (a ≡ false) × (b ≡ false)
 neither false b e = (refl, e)
@@ -51,57 +57,51 @@ closing-apart tol true (p ∷ ps) e = go (endsMeet tol (p ∷ ps)) refl
     go true f = rw f e
     go false f = rw f (snoc-apart tol p ps p e f)
 
-pub apart-spaced : (tol l : Float) (ps : List Point2) → crowded tol ps ≡ false → notSpacedFrom tol l ps ≡ notRisingFrom l ps
-unfolding crowded notRisingFrom notSpacedFrom
-apart-spaced tol l [] e = refl
-apart-spaced tol l (p ∷ []) e = refl
-apart-spaced tol l (p ∷ (q ∷ ps)) e = let n = neither (le (plainDist q p) tol) (crowded tol (q ∷ ps)) e in rw (n .0, apart-spaced tol (nextLength l p q) (q ∷ ps) (n .1))
-
 -- ---- its numbers are those of the points handed in
 
 -- point by point
-bad-point : (p : Point2) (ps : List Point2) → badNumbers (numbersOf (p ∷ ps)) ≡ (badNumbers (numbersOf (p ∷ [])) || badNumbers (numbersOf ps))
-unfolding badNumbers numbersOf
+bad-point : (p : Point2) (ps : List Point2) → badNumbers (pointNumbers (p ∷ ps)) ≡ (badNumbers (pointNumbers (p ∷ [])) || badNumbers (pointNumbers ps))
+unfolding badNumbers pointNumbers
 bad-point p ps = go (inRange (p .x)) (inRange (p .y))
   where
-    go : (a b : Bool) → (not a || (not b || badNumbers (numbersOf ps))) ≡ ((not a || (not b || false)) || badNumbers (numbersOf ps))
+    go : (a b : Bool) → (not a || (not b || badNumbers (pointNumbers ps))) ≡ ((not a || (not b || false)) || badNumbers (pointNumbers ps))
     go true true = refl
     go true false = refl
     go false b = refl
 
-good-kept : (tol : Float) (p : Point2) (qs : List Point2) → badNumbers (numbersOf qs) ≡ false → badNumbers (numbersOf (keptAfter tol p qs)) ≡ false
+good-kept : (tol : Float) (p : Point2) (qs : List Point2) → badNumbers (pointNumbers qs) ≡ false → badNumbers (pointNumbers (keptAfter tol p qs)) ≡ false
 unfolding keptAfter
 good-kept tol p [] h = h
 good-kept tol p (q ∷ qs) h =
-    let n = neither (badNumbers (numbersOf (q ∷ []))) (badNumbers (numbersOf qs)) (sym (bad-point q qs) ∙ h) in
+    let n = neither (badNumbers (pointNumbers (q ∷ []))) (badNumbers (pointNumbers qs)) (sym (bad-point q qs) ∙ h) in
     go (n .0) (le (plainDist q p) tol) refl (good-kept tol p qs (n .1)) (good-kept tol q qs (n .1))
   where
-    go : badNumbers (numbersOf (q ∷ [])) ≡ false → (b : Bool) → le (plainDist q p) tol ≡ b → badNumbers (numbersOf (keptAfter tol p qs)) ≡ false → badNumbers (numbersOf (keptAfter tol q qs)) ≡ false
-        → badNumbers (numbersOf (keptAfter tol p (q ∷ qs))) ≡ false
+    go : badNumbers (pointNumbers (q ∷ [])) ≡ false → (b : Bool) → le (plainDist q p) tol ≡ b → badNumbers (pointNumbers (keptAfter tol p qs)) ≡ false → badNumbers (pointNumbers (keptAfter tol q qs)) ≡ false
+        → badNumbers (pointNumbers (keptAfter tol p (q ∷ qs))) ≡ false
     go g true e before after = rw e before
     go g false e before after = rw (e, bad-point, g) after
 
-good-snoc : (ps : List Point2) (p : Point2) → badNumbers (numbersOf ps) ≡ false → badNumbers (numbersOf (p ∷ [])) ≡ false → badNumbers (numbersOf (ps ++ (p ∷ []))) ≡ false
+good-snoc : (ps : List Point2) (p : Point2) → badNumbers (pointNumbers ps) ≡ false → badNumbers (pointNumbers (p ∷ [])) ≡ false → badNumbers (pointNumbers (ps ++ (p ∷ []))) ≡ false
 good-snoc [] p h g = g
 good-snoc (q ∷ ps) p h g =
-    let n = neither (badNumbers (numbersOf (q ∷ []))) (badNumbers (numbersOf ps)) (sym (bad-point q ps) ∙ h) in
+    let n = neither (badNumbers (pointNumbers (q ∷ []))) (badNumbers (pointNumbers ps)) (sym (bad-point q ps) ∙ h) in
     bad-point q (ps ++ (p ∷ [])) ∙ rw (n .0) (good-snoc ps p (n .1) g)
 
-good-closing : (tol : Float) (forced : Bool) (ps : List Point2) → badNumbers (numbersOf ps) ≡ false → badNumbers (numbersOf (closing tol forced ps)) ≡ false
+good-closing : (tol : Float) (forced : Bool) (ps : List Point2) → badNumbers (pointNumbers ps) ≡ false → badNumbers (pointNumbers (closing tol forced ps)) ≡ false
 unfolding forcedClosed
 good-closing tol false ps h = h
 good-closing tol true [] h = h
-good-closing tol true (p ∷ ps) h = go (endsMeet tol (p ∷ ps)) refl (neither (badNumbers (numbersOf (p ∷ []))) (badNumbers (numbersOf ps)) (sym (bad-point p ps) ∙ h) .0)
+good-closing tol true (p ∷ ps) h = go (endsMeet tol (p ∷ ps)) refl (neither (badNumbers (pointNumbers (p ∷ []))) (badNumbers (pointNumbers ps)) (sym (bad-point p ps) ∙ h) .0)
   where
-    go : (b : Bool) → endsMeet tol (p ∷ ps) ≡ b → badNumbers (numbersOf (p ∷ [])) ≡ false → badNumbers (numbersOf (forcedClosed tol (p ∷ ps))) ≡ false
+    go : (b : Bool) → endsMeet tol (p ∷ ps) ≡ b → badNumbers (pointNumbers (p ∷ [])) ≡ false → badNumbers (pointNumbers (forcedClosed tol (p ∷ ps))) ≡ false
     go true f g = rw f h
     go false f g = rw f (good-snoc (p ∷ ps) p h g)
 
-good-whole : (tol : Float) (ps : List Point2) → badNumbers (numbersOf ps) ≡ false → badNumbers (numbersOf (kept tol ps)) ≡ false
+good-whole : (tol : Float) (ps : List Point2) → badNumbers (pointNumbers ps) ≡ false → badNumbers (pointNumbers (kept tol ps)) ≡ false
 unfolding kept
 good-whole tol [] h = h
 good-whole tol (p ∷ ps) h =
-    let n = neither (badNumbers (numbersOf (p ∷ []))) (badNumbers (numbersOf ps)) (sym (bad-point p ps) ∙ h) in
+    let n = neither (badNumbers (pointNumbers (p ∷ []))) (badNumbers (pointNumbers ps)) (sym (bad-point p ps) ∙ h) in
     bad-point p (keptAfter tol p ps) ∙ rw (n .0) (good-kept tol p ps (n .1))
 
 -- ---- a curve that cleaning made
@@ -112,22 +112,22 @@ whole-apart tol [] = refl
 whole-apart tol (p ∷ ps) = kept-apart tol p ps
 
 count-passes : (most n : ℕ) → n % 2 ≡ 0 → 4 ≤ n → n ≤ most + most → badCount most n ≡ false
-count-passes most n even least h = rw (eq-eqb _ _ even, le-ltb _ _ least, le-ltb _ _ h)
+count-passes most n even least h = rw (eq-eqb _ _ even, le-ltb (n / 2) 2 (omega arith), le-ltb most (n / 2) (omega arith))
 
-module _ (ns : List Float) (tol : Float) (forced : Bool) (count : badCount 4095 (length ns) ≡ false) (numbers : badNumbers ns ≡ false) (tolerance : badTolerance tol ≡ false)
+module _ (ns : List Float) (tol : Float) (forced : Bool) (count : badCount mostCleaned (length ns) ≡ false) (numbers : badNumbers ns ≡ false) (tolerance : badTolerance tol ≡ false)
     (enough : ltb (length (kept tol (pointsOf ns))) 2 ≡ false) where
   abbrev ps : List Point2
   ps = closing tol forced (kept tol (pointsOf ns))
 
-  curve-count : badCount 4096 (length (numbersOf ps)) ≡ false
+  curve-count : badCount mostPoints (length (pointNumbers ps)) ≡ false
   curve-count =
-      let even = count-even 4095 (length ns) count in
-      let least = count-least 4095 (length ns) count in
-      let most = count-most 4095 (length ns) count in
+      let even = count-even mostCleaned (length ns) count in
+      let least = count-least mostCleaned (length ns) count in
+      let most = count-most mostCleaned (length ns) count in
       let two = ltb-false (length (kept tol (pointsOf ns))) 2 enough in
       let more = closing-count tol forced (kept tol (pointsOf ns)) in
       let fits = kept-most tol ns even (omega arith) in
-      rw (numbers-length ps) (count-passes 4096 (2 * length ps) (omega arith) (omega arith) (omega arith))
+      rw (numbers-length ps) (count-passes mostPoints (2 * length ps) (omega arith) (omega arith) (omega arith))
 
   curve-apart : crowded tol ps ≡ false
   curve-apart = closing-apart tol forced _ (whole-apart tol (pointsOf ns))
@@ -136,11 +136,10 @@ module _ (ns : List Float) (tol : Float) (forced : Bool) (count : badCount 4095 
   curve-made =
       record {
         count = curve-count;
-        numbers = good-closing tol forced _ (good-whole tol (pointsOf ns) (rw (numbers-points ns (count-even 4095 (length ns) count)) numbers));
+        numbers = good-closing tol forced _ (good-whole tol (pointsOf ns) (rw (numbers-points ns (count-even mostCleaned (length ns) count)) numbers));
         tolerance = tolerance;
         points = points-numbers ps;
         apart = curve-apart;
-        spaced = rw (points-numbers ps) (apart-spaced tol f0 ps curve-apart);
       }
 
 -- where the tests passed, what came after them is the answer
@@ -148,7 +147,7 @@ tests-first : (a : Answer (Unit {0})) (b : Answer (List Point2)) (ps : List Poin
 tests-first (result tt) b ps e = (refl, e)
 tests-first (refusal n) b ps e = let z : _≡_ {A = ℕ} 0 1 = cc in absurd (omega arith)
 
-two-kept : (few : Bool) (qs ps : List Point2) → cond few (refusal 5) (result qs) ≡ result ps → (few ≡ false) × (qs ≡ ps)
+two-kept : (few : Bool) (qs ps : List Point2) → cond few (refusal TooFewKept) (result qs) ≡ result ps → (few ≡ false) × (qs ≡ ps)
 two-kept false qs ps e = (refl, cc)
 two-kept true qs ps e = let z : _≡_ {A = ℕ} 0 1 = cc in absurd (omega arith)
 
@@ -158,15 +157,15 @@ cleaned-curve ns tol forced room ps e =
     let whole = kept tol (pointsOf ns) in
     let first = tests-first (cleaningEntry ns tol room) (curveOf tol forced (pointsOf ns)) ps e in
     let then = two-kept (ltb (length whole) 2) (closing tol forced whole) ps (first .1) in
-    let passed = all-passed ((1, badCount 4095 (length ns)) ∷ ((2, badNumbers ns) ∷ ((3, badTolerance tol) ∷ ((4, ltb room (length ns + 2)) ∷ [])))) (first .0) in
-    rw (then .1) at (curve-made ns tol forced (passed 0) (passed 1) (passed 2) (then .0))
+    let passed = none-bad ((PointCount, badCount mostCleaned (length ns)) ∷ ((BadNumber, badNumbers ns) ∷ ((Tolerance, badTolerance tol) ∷ ((NoRoom, ltb room (length ns + 2)) ∷ [])))) (first .0) in
+    rw (then .1) at (curve-made ns tol forced (passed .0) (passed .1 .0) (passed .1 .1 .0) (then .0))
 
 -- so its lengths alone are left to be tested
-pub curve-section : (ps : List Point2) (tol : Float) → IsCurve ps tol → notRisingFrom f0 ps ≡ false → IsSection (numbersOf ps) tol
+pub curve-section : (ps : List Point2) (tol : Float) → IsCurve ps tol → notRising (lengthsOf ps) ≡ false → IsSection (pointNumbers ps) tol
 curve-section ps tol c rising =
     record {
-      points = has-points (numbersOf ps) 4096 (lit≤ tt) (c .count);
+      points = has-points (pointNumbers ps) mostPoints (lit≤ tt) (c .count);
       numbers = c .numbers;
       tolerance = c .tolerance;
-      spaced = c .spaced ∙ rising;
+      spaced = rw (c .points, c .apart) rising;
     }

@@ -1,43 +1,31 @@
 -- Laws of the curve that cleaning makes, and of its output. Assumes nothing.
 use mathlib.Core.Path.{_≡_, refl, sym, ap, _∙_}
-use mathlib.Core.Bool.{Bool, true, false}
+use mathlib.Core.Bool.{Bool, true, false, _&&_}
 use mathlib.Core.List.{List, [], _∷_}
-use Prim.Native.Nat.{ℕ, zero, suc, _+_, _*_, _%_, _≤_, _<_}
+use Prim.Native.Nat.{ℕ, _+_, _*_, _%_, _≤_, _<_}
 use native.Mathlib.Omega.{arith}
 use borrow.Author.Tests.{le-ltb}
 use lib.Dec.{ltb}
-use lib.ListN.{length, getD, take, drop, length-append}
+use lib.ListN.{length, take, drop, length-append}
 use lib.Seq.{take-at}
 use lib.Ieee.{Float, le}
 use Rattle.errors.specs.Answer.{Answer, result, refusal}
 use Rattle.errors.specs.Lists.{lastOf}
-use Rattle.errors.specs.Refusals.{numberOf}
 use Rattle.errors.specs.declared.Refusal.{Refusal}
 use Rattle.points.specs.declared.Point2.{Point2}
-use Rattle.curve2.specs.Section.{pointsOf, pointAt, plainDist}
-use Rattle.curve2.specs.Entry.{tested}
+use Rattle.curve2.specs.Section.{pointsOf, pointAt, plainDist, endsMeet}
 use Rattle.curve2.proofs.Laws.{points-step, points-end}
-use Rattle.keeping.specs.Kept.{kept, keptAfter, endsMeet, numbersOf, placed}
-use Rattle.keeping.specs.Keeping.{Held, keep, closeHeld, allNear, holding}
-use Rattle.keeping.proofs.Numbers.{points-length, points-numbers, numbers-length}
-use Rattle.keeping.proofs.Keeping.{keep-drops, keep-puts, first-point}
-use Rattle.cleaning.specs.Cleaning.{forcedClosed, closing, curveAnswer, outputAfter, Made}
+use Rattle.cleaning.specs.Cleaning.{kept, keptAfter, pointNumbers, placed, forcedClosed, closing, curveAnswer, outputAfter, Made}
+use Rattle.cleaning.specs.Code.{Held, keep, closeHeld, holding}
+use Rattle.cleaning.proofs.Numbers.{points-length, points-numbers, numbers-length}
+use Rattle.cleaning.proofs.HeldLaws.{keep-drops, keep-puts, first-point}
 use Rattle.cleaning.specs.declared.CurveAnswer.{CurveAnswer}
-
--- ---- the entry tests
-
--- each of them passed
-pub all-passed : (ts : List (ℕ × Bool)) → tested ts ≡ result tt → (i : ℕ) → getD ts i (0, false) .1 ≡ false
-all-passed [] e i = refl
-all-passed ((n, true) ∷ ts) e i = let z : _≡_ {A = ℕ} 0 1 = cc in absurd (omega arith)
-all-passed ((n, false) ∷ ts) e zero = refl
-all-passed ((n, false) ∷ ts) e (suc i) = all-passed ts e i
 
 -- ---- forced closing
 
 close-holding : (tol : Float) (forced : Bool) (old : List Float) (p : Point2) (ps : List Point2) → 2 * length (p ∷ ps) + 2 ≤ length old
     → closeHeld tol forced (holding old (p ∷ ps)) ≡ holding old (closing tol forced (p ∷ ps))
-unfolding closeHeld forcedClosed endsMeet holding numbersOf
+unfolding closeHeld forcedClosed endsMeet holding pointNumbers
 close-holding tol false old p ps h = refl
 close-holding tol true old p ps h = go (le (plainDist p (lastOf p ps)) tol) refl
   where
@@ -68,7 +56,7 @@ held-output old ps h e = rw e
 
 module _ (old : List Float) (ps : List Point2) (end : ℕ) (out : List Float) (n : end ≡ 2 * length ps) (o : out ≡ placed ps old) where
   -- its numbers are the output's first
-  pub first-numbers : take end out ≡ numbersOf ps
+  pub first-numbers : take end out ≡ pointNumbers ps
   first-numbers = rw o (take-at _ _ _ (numbers-length ps ∙ sym n))
 
   pub first-length : length (take end out) ≡ end
@@ -80,7 +68,7 @@ module _ (old : List Float) (ps : List Point2) (end : ℕ) (out : List Float) (n
   unfolding curveAnswer outputAfter
   made-result tol closed count e f = record { listed = rw (f, first-numbers, points-numbers ps, e); output = o }
 
-pub made-refused : {answer : Answer (List Point2)} (tol : Float) (old : List Float) (r : Refusal) → answer ≡ refusal (numberOf r) → Made answer tol old old (CurveAnswer.Refused r)
+pub made-refused : {answer : Answer (List Point2)} (tol : Float) (old : List Float) (r : Refusal) → answer ≡ refusal r → Made answer tol old old (CurveAnswer.Refused r)
 unfolding curveAnswer outputAfter
 made-refused tol old r e = record { listed = rw e; output = rw e }
 
@@ -132,6 +120,11 @@ module _ (tol : Float) (ns old : List Float) (h₁ : Held) (e₁ : h₁ ≡ hold
         made-result _ _ (2 * h₂ .kept .count) _ (ap (λ (n : ℕ). 2 * n) (held-count _ _ _ closed-held)) (held-output _ _ _ closed-held) tol closed _ (held-count _ _ _ closed-held) e
 
 -- ---- 5: fewer than two points are kept
+
+-- every one of the points is within the tolerance of p, so that none of them is kept behind it
+unfoldable pub allNear : Float → Point2 → List Point2 → Bool
+allNear tol p [] = true
+allNear tol p (q ∷ qs) = le (plainDist q p) tol && allNear tol p qs
 
 pub too-few : (tol : Float) (p : Point2) (qs : List Point2) → allNear tol p qs ≡ ltb (length (kept tol (p ∷ qs))) 2
 unfolding kept keptAfter allNear

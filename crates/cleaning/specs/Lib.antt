@@ -1,3 +1,3 @@
--- Cleaning a list of points into a curve, and what such a curve is.
+-- Cleaning a list of points into a curve, and a section backwards.
 pub mod Cleaning
-pub mod Curves
+pub mod Code

@@ -1,13 +1,18 @@
 // Cleaning a list of points into a curve.
+pub mod checked;
+pub mod reversed;
+
+use curve2::MOST_POINTS;
+use curve2::entering;
 use errors::Refusal;
-ghost use mathlib.Core.Path.{_≡_};
-ghost use Prim.Native.Nat.{_+_, _%_, _≤_};
-ghost use lib.Dec.{ltb};
+use points::Point2;
 ghost use lib.ListN.{length};
-ghost use Rattle.errors.specs.Answer.{result};
-ghost use Rattle.curve2.specs.Section.{pointsOf};
-ghost use Rattle.keeping.specs.Kept.{kept};
-ghost use Rattle.cleaning.specs.Cleaning.{closing, curveOf, cleaned, Made};
+ghost use Rattle.cleaning.specs.Cleaning.{cleaned, Made};
+
+mod keeping;
+
+// Cleaning takes no more points than this: forced closing may add one.
+const MOST_CLEANED: usize = MOST_POINTS - 1;
 
 // A curve in an output: how many points it has, and whether its ends meet.
 pub struct Curve {
@@ -21,54 +26,10 @@ pub enum CurveAnswer {
     Refused(Refusal),
 }
 
-// Whether cleaning leaves fewer than two points: none is farther than the tolerance from the first.
-fn is_too_few(points: &[f64], tol: f64) -> bool
-    requires { ⌜ length (now points) % 2 ≡ 0 ⌝ }
-    requires { ⌜ 2 ≤ length (now points) ⌝ }
-    ensures { λ r. ⌜ r ≡ ltb (length (kept tol (pointsOf (now (points .entry))))) 2 ⌝ }
-{
-    let first = keeping::point_at(points, 0);
-    let mut i: usize = 2;
-    while i < points.len() {
-        let p = keeping::point_at(points, i);
-        if !(keeping::distance(p, first) <= tol) {
-            return false;
-        }
-        i += 2;
-    }
-    true
-}
-
-// The curve that cleaning makes, where two points or more are kept.
-fn clean(points: &[f64], tol: f64, force_closed: bool, out: &mut [f64]) -> Curve
-    requires { ⌜ length (now points) % 2 ≡ 0 ⌝ }
-    requires { ⌜ 2 ≤ length (now points) ⌝ }
-    requires { ⌜ length (now points) + 2 ≤ length (now out) ⌝ }
-    ensures { λ r. ⌜ Made (result (closing tol «force_closed» (kept tol (pointsOf (now (points .entry)))))) tol (now (out .entry)) (now (out .exit)) (CurveAnswer.Value r) ⌝ }
-{
-    let k = keeping::keep_all(points, tol, out);
-    let held = keeping::close(out, k, tol, force_closed);
-    let count = held.count;
-    let end = 2 * count;
-    let made = &out[..end];
-    let is_closed = keeping::ends_meet(made, tol);
-    Curve {
-        count: count,
-        is_closed: is_closed,
-    }
-}
-
-// The curve of points whose count and output have been tested: 5 where fewer than two are kept.
-pub fn clean_points(points: &[f64], tol: f64, force_closed: bool, out: &mut [f64]) -> CurveAnswer
-    requires { ⌜ length (now points) % 2 ≡ 0 ⌝ }
-    requires { ⌜ 2 ≤ length (now points) ⌝ }
-    requires { ⌜ length (now points) + 2 ≤ length (now out) ⌝ }
-    ensures { λ r. ⌜ Made (curveOf tol «force_closed» (pointsOf (now (points .entry)))) tol (now (out .entry)) (now (out .exit)) r ⌝ }
-{
-    if is_too_few(points, tol) {
-        return CurveAnswer::Refused(Refusal::TooFewKept);
-    }
-    CurveAnswer::Value(clean(points, tol, force_closed, out))
+// What an output holds so far: how many points from its start on, and the last of them.
+pub struct Kept {
+    pub count: usize,
+    pub last: Point2,
 }
 
 // The curve of a list of points: a point no farther than the tolerance from the last one kept is dropped, and forced closing adds the start
@@ -77,17 +38,17 @@ pub fn from_points(points: &[f64], tol: f64, force_closed: bool, out: &mut [f64]
     ensures { λ r. ⌜ Made (cleaned (now (points .entry)) tol «force_closed» (length (now (out .entry)))) tol (now (out .entry)) (now (out .exit)) r ⌝ }
 {
     let n = points.len();
-    if entry::is_bad_count(4095, n) {
+    if entering::is_bad_count(MOST_CLEANED, n) {
         return CurveAnswer::Refused(Refusal::PointCount);
     }
-    if entry::has_bad_number(points) {
+    if entering::has_bad_number(points) {
         return CurveAnswer::Refused(Refusal::BadNumber);
     }
-    if entry::is_bad_tolerance(tol) {
+    if entering::is_bad_tolerance(tol) {
         return CurveAnswer::Refused(Refusal::Tolerance);
     }
     if out.len() < n + 2 {
         return CurveAnswer::Refused(Refusal::NoRoom);
     }
-    clean_points(points, tol, force_closed, out)
+    checked::clean_points(points, tol, force_closed, out)
 }

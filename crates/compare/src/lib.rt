@@ -1,28 +1,32 @@
 // The library's functions behind one call, for programs that read what to ask: oracle/ and `cases`.
 // Numbers come in by slices and answers go out by slices, as `answers` says. `place` is a count, a vertex or an edge, `how` a yes or no.
-use answers::circle_from;
-use answers::line_from;
-use answers::number_at;
-use answers::put_circle;
-use answers::put_point;
-use answers::tell;
-use answers::tell_bool;
-use answers::tell_circle;
-use answers::tell_curve;
-use answers::tell_entry;
-use answers::tell_refusal;
-use answers::tell_run;
-use answers::tell_scalar;
-use answers::tell_station;
-use answers::tell_tried;
-use answers::vector_from;
+pub mod answers;
+mod asked;
+
+use crate::answers::circle_from;
+use crate::answers::line_from;
+use crate::answers::number_at;
+use crate::answers::put_circle;
+use crate::answers::put_point;
+use crate::answers::tell;
+use crate::answers::tell_bool;
+use crate::answers::tell_circle;
+use crate::answers::tell_curve;
+use crate::answers::tell_entry;
+use crate::answers::tell_refusal;
+use crate::answers::tell_run;
+use crate::answers::tell_scalar;
+use crate::answers::tell_station;
+use crate::answers::tell_tried;
+use crate::answers::vector_from;
+use camber::extraction;
+use edges::FitAnswer;
+use gap::EdgeEnd;
+use inscribed::FrontAndBackAnswer;
 use lists::PlaceAnswer;
-use measures::FrontAndBackAnswer;
-use moves::Run;
 use orient::OrientFwdAft;
 use orient::OrientUpperLower;
-use round::EdgeEnd;
-use round::EdgeFit;
+use refine::RunAnswer;
 use sections::BoolAnswer;
 
 // ---- orientation, and whether a section is open
@@ -91,29 +95,34 @@ fn run_of(
     count: usize,
     limit: u32,
     store: &mut [f64],
-) -> Run {
+) -> RunAnswer {
     let section_tol = number_at(args, 0);
     let tol = number_at(args, 1);
     let line = line_from(args, 2);
     match kind {
         26 => {
             let c = circle_from(args, 2);
-            refinement::refine_and_push(section, section_tol, tol, store, count, c, limit)
+            refine::refine_and_push(section, section_tol, tol, store, count, c, limit)
         }
         27 => camber::march::march(section, section_tol, tol, line, store, limit),
         _ => extraction::extract_circles(section, section_tol, tol, line, store, limit),
     }
 }
 
-fn tell_fit(fit: EdgeFit, out: &mut [f64], told: &mut [u64]) {
-    let end = fit.end;
-    tell(told, 0, round::end_number(end) as u64);
-    tell(told, 1, fit.count as u64);
-    tell(told, 2, fit.units as u64);
-    match end {
-        EdgeEnd::Fitted(p) => put_point(p, out, 0),
-        EdgeEnd::Spent => {}
-        EdgeEnd::Refused(_) => {}
+fn tell_fit(answer: FitAnswer, out: &mut [f64], told: &mut [u64]) {
+    tell(told, 0, edges::number(answer) as u64);
+    match answer {
+        FitAnswer::Ran(fit) => {
+            tell(told, 1, fit.count as u64);
+            tell(told, 2, fit.units as u64);
+            let end = fit.end;
+            match end {
+                EdgeEnd::Fitted(p) => put_point(p, out, 0),
+                EdgeEnd::Spent => {}
+                EdgeEnd::Refused(_) => {}
+            }
+        }
+        FitAnswer::Refused(_) => {}
     }
 }
 
@@ -124,7 +133,7 @@ fn fit_of(
     how: u64,
     limit: u32,
     store: &mut [f64],
-) -> EdgeFit {
+) -> FitAnswer {
     let section_tol = number_at(args, 0);
     let tol = number_at(args, 1);
     edges::fit_open_edge(section, section_tol, tol, store, count, how != 0, limit)
@@ -165,12 +174,13 @@ fn ask_list(
         32 => tell_entry(lists::reverse_points(store, count), told),
         33 => tell_entry(lists::reverse_order(store, count), told),
         34 => tell_entry(lists::reverse_order_only(store, count), told),
-        _ => asked::leaves::ask_part(store, count, how as usize, out, told),
+        35 => asked::leaves::ask_part(store, count, how as usize, out, told),
+        _ => tell_place(asked::records::index_of_tmax_of(store), told),
     }
 }
 
 // Asks for what `kind` stands for: curves to 3, yes or no to 10, numbers to 14, stations to 19, lines to 22, circles to 25, runs to 28, the open edge 29,
-// lists to 35, and single steps from 36 on.
+// lists to 35 and 44, and single steps from 36 on.
 #[no_mangle]
 pub extern "C" fn ask(
     kind: u64,
@@ -199,7 +209,7 @@ pub extern "C" fn ask(
         23..=25 => ask_circle(kind, section, args, out, told),
         26..=28 => tell_run(run_of(kind, section, args, place, limit, store), told),
         29 => tell_fit(fit_of(section, args, place, how, limit, store), out, told),
-        30..=35 => ask_list(kind, place, how, store, out, told),
+        30..=35 | 44 => ask_list(kind, place, how, store, out, told),
         _ => asked::leaves::ask_step(kind, args, place, how, out, told),
     }
 }

@@ -3,19 +3,20 @@
 use mathlib.Core.Path.{_≡_}
 use mathlib.Core.Bool.{Bool, false, not, _&&_, _||_, cond}
 use mathlib.Core.List.{List, [], _∷_}
-use Prim.Native.Nat.{ℕ, _+_, _%_, _≤_}
+use Prim.Native.Nat.{ℕ, _*_, _/_, _%_, _≤_}
 use lib.Dec.{eqb, ltb}
 use lib.ListN.{length}
 use lib.Ieee.{Float, neg, lt, le, ofBits, binary64}
 use Rattle.errors.specs.Answer.{Answer, result, refusal}
-use Rattle.errors.specs.Refusals.{numberOf}
 use Rattle.points.specs.Numbers.{f0}
 use Rattle.points.specs.declared.Point2.{Point2}
-use Rattle.curve2.specs.Section.{pointsOf, plainDist, nextLength}
+use Rattle.curve2.specs.Section.{pointsOf, plainDist, lengthsOf}
 use Rattle.curve2.specs.declared.AlsoBad.{AlsoBad}
 use Rattle.curve2.specs.declared.Entry.{Entry}
+use Rattle.errors.specs.declared.Refusal.{Refusal}
+use Rattle.errors.specs.declared.Refusal.the-variants.{BadNumber, NoRoom, NotSpaced, PointCount, Tolerance}
 
-abbrev pub tested : List (ℕ × Bool) → Answer (Unit {0})
+abbrev pub tested : List (Refusal × Bool) → Answer (Unit {0})
 tested [] = result tt
 tested (t ∷ ts) = cond (t .1) (refusal (t .0)) (tested ts)
 
@@ -25,9 +26,13 @@ million = ofBits binary64 0x412e_8480_0000_0000
 
 -- ---- the tests of a section
 
+-- the 4,096 points that a section has at most
+abbrev pub mostPoints : ℕ
+mostPoints = 4096
+
 -- 1: "odd count of numbers, fewer than 2 points, or over 4,096"
 abbrev pub badCount : ℕ → ℕ → Bool
-badCount most n = not (eqb (n % 2) 0) || (ltb n 4 || ltb (most + most) n)
+badCount most n = not (eqb (n % 2) 0) || (ltb (n / 2) 2 || ltb most (n / 2))
 
 -- 2: "isn't finite", or "a coordinate beyond 1,000,000 in size"
 abbrev pub inRange : Float → Bool
@@ -52,36 +57,44 @@ mostTol = ofBits binary64 0x408f_4000_0000_0000
 abbrev pub badGeneral : Float → Bool
 badGeneral tol = not (le leastTol tol && le tol mostTol)
 
--- 6: "neighbouring points no farther apart than the section tolerance, or summed lengths that don't strictly rise"
-unfoldable pub notSpacedFrom : Float → Float → List Point2 → Bool
-notSpacedFrom tol l [] = false
-notSpacedFrom tol l (p ∷ []) = false
-notSpacedFrom tol l (p ∷ (q ∷ ps)) = le (plainDist q p) tol || (not (lt l (nextLength l p q)) || notSpacedFrom tol (nextLength l p q) (q ∷ ps))
+-- 6: "neighbouring points no farther apart than the section tolerance,
+unfoldable pub crowded : Float → List Point2 → Bool
+crowded tol [] = false
+crowded tol (p ∷ []) = false
+crowded tol (p ∷ (q ∷ ps)) = le (plainDist q p) tol || crowded tol (q ∷ ps)
+
+-- or summed lengths that don't strictly rise"
+unfoldable pub notRising : List Float → Bool
+notRising [] = false
+notRising (l ∷ []) = false
+notRising (l ∷ (m ∷ ls)) = not (lt l m) || notRising (m ∷ ls)
 
 abbrev pub notSpaced : List Float → Float → Bool
-notSpaced ns tol = notSpacedFrom tol f0 (pointsOf ns)
+notSpaced ns tol = crowded tol (pointsOf ns) || notRising (lengthsOf (pointsOf ns))
 
 -- ---- all of them
 
-abbrev pub sectionTests : List Float → Float → AlsoBad → List (ℕ × Bool)
+abbrev pub sectionTests : List Float → Float → AlsoBad → List (Refusal × Bool)
 sectionTests ns tol also =
-    (1, badCount 4096 (length ns))
-    ∷ (2, badNumbers ns || also .number)
-    ∷ (3, badTolerance tol || also .tolerance)
-    ∷ (4, also .room)
-    ∷ (6, notSpaced ns tol)
+    (PointCount, badCount mostPoints (length ns))
+    ∷ (BadNumber, badNumbers ns || also .number)
+    ∷ (Tolerance, badTolerance tol || also .tolerance)
+    ∷ (NoRoom, also .room)
+    ∷ (NotSpaced, notSpaced ns tol)
     ∷ []
 
 unfoldable pub sectionEntry : List Float → Float → AlsoBad → Answer (Unit {0})
 sectionEntry ns tol also = tested (sectionTests ns tol also)
 
--- What a section that passed them is: what the functions on it ask for, and no caller tests again. From 2 to 4,096 whole points:
+-- ---- what passing them tells
+
+-- From 2 to 4,096 whole points: this is what the steps on a section ask for.
 pub record HasPoints (ns : List Float) : Type 0 where
   pub even : length ns % 2 ≡ 0
   pub least : 4 ≤ length ns
-  pub most : length ns ≤ 8192
+  pub most : length ns ≤ 2 * mostPoints
 
--- and the rest of it
+-- All that the tests tell of a section alone. No function asks for it; the law of a cleaned curve speaks of it.
 pub record IsSection (ns : List Float) (tol : Float) : Type 0 where
   pub points : HasPoints ns
   pub numbers : badNumbers ns ≡ false
@@ -90,4 +103,4 @@ pub record IsSection (ns : List Float) (tol : Float) : Type 0 where
 
 abbrev pub listedEntry : Entry → Answer (Unit {0})
 listedEntry Entry.Passed = result tt
-listedEntry (Entry.Refused r) = refusal (numberOf r)
+listedEntry (Entry.Refused r) = refusal r

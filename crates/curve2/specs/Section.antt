@@ -1,10 +1,11 @@
 -- A section is a list of numbers, x and y of each point in turn. Its points, edges and lengths. Assumes nothing.
-use mathlib.Core.Bool.{Bool}
+use mathlib.Core.Bool.{Bool, true}
 use mathlib.Core.List.{List, [], _∷_}
-use Prim.Native.Nat.{ℕ, _+_, _-_}
-use lib.ListN.{length, getD}
+use Prim.Native.Nat.{ℕ, _+_}
+use lib.ListN.{getD}
 use lib.Ieee.{Float, nan, le}
-use Rattle.digits.specs.Sqrt.{sqrtOf}
+use Rattle.errors.specs.Lists.{lastOf}
+use Rattle.root.specs.Sqrt.{sqrtOf}
 use Rattle.points.specs.Numbers.{_+f_, _*f_, f0}
 use Rattle.points.specs.Points.{minus}
 use Rattle.points.specs.declared.Point2.{Point2}
@@ -27,8 +28,12 @@ unfoldable pub plainDist : Point2 → Point2 → Float
 plainDist a b = let v = minus a b in sqrtOf (v .x *f v .x +f v .y *f v .y)
 
 -- "closed means ends within the tolerance"
+unfoldable pub endsMeet : Float → List Point2 → Bool
+endsMeet tol [] = true
+endsMeet tol (p ∷ ps) = le (plainDist p (lastOf p ps)) tol
+
 unfoldable pub isClosed : List Float → Float → Bool
-isClosed ns tol = le (plainDist (pointAt ns 0) (pointAt ns (length ns - 2))) tol
+isClosed ns tol = endsMeet tol (pointsOf ns)
 
 -- ---- lengths: 0 at the first point, and at each later one its distance from the one before it, plus the length there
 
@@ -45,11 +50,6 @@ unfoldable pub lengthsOf : List Point2 → List Float
 unfolding lengthsFrom
 lengthsOf ps = lengthsFrom f0 ps
 
--- the length of the whole
-unfoldable pub wholeFrom : Float → List Point2 → Float
-wholeFrom l [] = l
-wholeFrom l (p ∷ []) = l
-wholeFrom l (p ∷ (q ∷ ps)) = wholeFrom (nextLength l p q) (q ∷ ps)
-
-abbrev pub wholeLength : List Float → Float
-wholeLength ns = wholeFrom f0 (pointsOf ns)
+-- the length of the whole is the last of them
+unfoldable pub wholeLength : List Float → Float
+wholeLength ns = lastOf f0 (lengthsOf (pointsOf ns))

@@ -1,10 +1,15 @@
-// Sections: what is told of their points, and what the entry tests take and answer.
+// Sections: the types of their points, and what the entry tests take and answer. A section that passed the tests is what the functions of `checked` take.
+pub mod checked;
+pub mod entering;
+
 use errors::Refusal;
+use points::Point2;
+use points::Vector2;
 ghost use mathlib.Core.Path.{_≡_};
-ghost use Prim.Native.Nat.{_+_, _<_};
-ghost use lib.ListN.{length};
-ghost use Rattle.curve2.specs.Section.{point, pointAt, plainDist, isClosed, wholeLength};
-ghost use Rattle.curve2.specs.Entry.{HasPoints};
+ghost use Rattle.curve2.specs.Section.{point, plainDist};
+
+// A section has no more points than this.
+pub const MOST_POINTS: usize = 4096;
 
 // What fails of the arguments beside the section: a number (2), a tolerance (3), a count or an output (4).
 pub struct AlsoBad {
@@ -19,6 +24,20 @@ pub enum Entry {
     Refused(Refusal),
 }
 
+// A place on a section: its point, the direction there, its edge and its fraction of that edge.
+pub struct CurveStation2 {
+    pub point: Point2,
+    pub direction: Vector2,
+    pub index: usize,
+    pub fraction: f64,
+}
+
+// A station, or why there is none.
+pub enum StationAnswer {
+    Value(CurveStation2),
+    Refused(Refusal),
+}
+
 // The distance of two points by their coordinates.
 pub fn plain_dist(ax: f64, ay: f64, bx: f64, by: f64) -> f64
     ensures { λ r. ⌜ r ≡ plainDist (point ax ay) (point bx by) ⌝ }
@@ -26,47 +45,4 @@ pub fn plain_dist(ax: f64, ay: f64, bx: f64, by: f64) -> f64
     let x = ax - bx;
     let y = ay - by;
     root::square_root(x * x + y * y)
-}
-
-// The length of the edge between the points whose numbers start at i and at i + 2.
-pub fn edge_length(points: &[f64], i: usize) -> f64
-    requires { ⌜ i + 3 < length (now points) ⌝ }
-    ensures { λ r. ⌜ r ≡ plainDist (pointAt (now (points .entry)) (i + 2)) (pointAt (now (points .entry)) i) ⌝ }
-{
-    let i1 = i + 1;
-    let i2 = i + 2;
-    let i3 = i2 + 1;
-    let px = points[i];
-    let py = points[i1];
-    let qx = points[i2];
-    let qy = points[i3];
-    plain_dist(qx, qy, px, py)
-}
-
-// Whether the ends lie within the tolerance of each other.
-pub fn is_closed(points: &[f64], tol: f64) -> bool
-    requires { ⌜ HasPoints (now points) ⌝ }
-    ensures { λ r. ⌜ r ≡ isClosed (now (points .entry)) tol ⌝ }
-{
-    let i = points.len() - 2;
-    let i1 = i + 1;
-    let ax = points[0];
-    let ay = points[1];
-    let bx = points[i];
-    let by = points[i1];
-    plain_dist(ax, ay, bx, by) <= tol
-}
-
-// The length of the whole, edge by edge.
-pub fn whole_length(points: &[f64]) -> f64
-    requires { ⌜ HasPoints (now points) ⌝ }
-    ensures { λ r. ⌜ r ≡ wholeLength (now (points .entry)) ⌝ }
-{
-    let mut l: f64 = 0.0;
-    let mut i: usize = 0;
-    while i + 3 < points.len() {
-        l = edge_length(points, i) + l;
-        i += 2;
-    }
-    l
 }

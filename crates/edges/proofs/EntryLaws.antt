@@ -6,7 +6,7 @@ use Rattle.errors.specs.Answer.{result}
 use Rattle.curve2.specs.Entry.{HasPoints}
 use Rattle.curve2.proofs.Laws.{entry-passed, entry-room}
 use Rattle.inscribed.specs.Store.{slots}
-use Rattle.edges.specs.Fit.{EdgeInput, edgeEntry}
+use Rattle.edges.specs.Edges.{EdgeInput, edgeEntry}
 
 pub entry-points : (i : EdgeInput) → edgeEntry i ≡ result tt → HasPoints (i .section)
 unfolding edgeEntry

@@ -1,2 +1,3 @@
 -- Open edges: whether a section is open at an end, and the fit.
-pub mod Fit
+pub mod Edges
+pub mod Code

@@ -1,13 +1,52 @@
 // The open edge: whether the section is open at an end, and the point where the camber line meets the gap.
+mod fitting;
+mod open_end;
+
 use curve2::AlsoBad;
 use curve2::Entry;
-use round::EdgeFit;
+use curve2::entering;
+use errors::Refusal;
+use gap::EdgeEnd;
+use gap::EdgeFit;
 use sections::BoolAnswer;
 ghost use mathlib.Core.Path.{_≡_};
+ghost use mathlib.Core.List.{List};
+ghost use lib.Ieee.{Float};
 ghost use Rattle.curve2.specs.Entry.{listedEntry};
 ghost use Rattle.sections.specs.Asked.{listedBool};
-ghost use Rattle.fits.specs.Fitted.{listedFit};
-ghost use Rattle.edges.specs.Fit.{edgeEntry, openAtEnd, fitOf};
+ghost use Rattle.refine.specs.Report.{endingNumber, calledNumber};
+ghost use Rattle.gap.specs.Rounds.{listedEdgeEnd};
+ghost use Rattle.edges.specs.Edges.{edgeEntry, openAtEnd, fitOf, listedFitCall};
+
+// What a call of a fit returns: refused on entry, the number alone; else what the fit returns.
+pub enum FitAnswer {
+    Ran(EdgeFit),
+    Refused(Refusal),
+}
+
+// The number of an ending: 0 for an edge point, 14 for a spent fit.
+fn end_number(end: EdgeEnd) -> u32
+    ensures { λ r. ⌜ r ≡ endingNumber (listedEdgeEnd end) ⌝ }
+{
+    match end {
+        EdgeEnd::Fitted(_) => 0,
+        EdgeEnd::Spent => 14,
+        EdgeEnd::Refused(r) => errors::number(r),
+    }
+}
+
+// The number of what a fit's call returns: 0 for an edge point.
+pub fn number(answer: FitAnswer) -> u32
+    ensures { λ r. ⌜ ((store : List Float) → r ≡ calledNumber (listedFitCall answer store)) ⌝ }
+{
+    match answer {
+        FitAnswer::Ran(fit) => {
+            let end = fit.end;
+            end_number(end)
+        }
+        FitAnswer::Refused(r) => errors::number(r),
+    }
+}
 
 // The entry tests of an edge.
 fn entered(
@@ -21,14 +60,14 @@ fn entered(
     ensures { λ r. ⌜ listedEntry r ≡ edgeEntry (record { section = now (section .entry); sectionTol = «section_tol»; tol = tol; store = now (store .entry); count = count; atFront = «at_front» }) ⌝ }
 {
     let number = inscribed::store::has_bad_circle(store, count);
-    let tolerance = entry::is_bad_general(tol);
+    let tolerance = entering::is_bad_general(tol);
     let room = inscribed::store::is_bad_store_count(store, count);
     let also = AlsoBad {
         number,
         tolerance,
         room,
     };
-    entry::section_entry(section, section_tol, also)
+    entering::section_entry(section, section_tol, also)
 }
 
 // The open edge of a section at one end of its circles, within a limit of units.
@@ -40,13 +79,13 @@ pub fn fit_open_edge(
     count: usize,
     at_front: bool,
     limit: u32,
-) -> EdgeFit
-    ensures { λ r. ⌜ listedFit r (now (store .exit)) ≡ fitOf (record { section = now (section .entry); sectionTol = «section_tol»; tol = tol; store = now (store .entry); count = count; atFront = «at_front» }) limit ⌝ }
+) -> FitAnswer
+    ensures { λ r. ⌜ listedFitCall r (now (store .exit)) ≡ fitOf (record { section = now (section .entry); sectionTol = «section_tol»; tol = tol; store = now (store .entry); count = count; atFront = «at_front» }) limit ⌝ }
 {
     match entered(section, section_tol, tol, store, count, at_front) {
         Entry::Passed => {
-            let slots = inscribed::store::slots_up_to(1024, store.len());
-            fits::fit(
+            let slots = inscribed::store::slots_in(store.len());
+            let fit = fitting::fit(
                 section,
                 section_tol,
                 tol,
@@ -55,9 +94,10 @@ pub fn fit_open_edge(
                 count,
                 at_front,
                 limit,
-            )
+            );
+            FitAnswer::Ran(fit)
         }
-        Entry::Refused(r) => round::refused(r, count, 0),
+        Entry::Refused(r) => FitAnswer::Refused(r),
     }
 }
 
@@ -74,10 +114,10 @@ pub fn is_open_at_end(
 {
     match entered(section, section_tol, tol, store, count, at_front) {
         Entry::Passed => {
-            if curve2::is_closed(section, section_tol) {
+            if curve2::checked::is_closed(section, section_tol) {
                 return BoolAnswer::Value(false);
             }
-            beyond::is_beyond_end(section, store, count, at_front)
+            open_end::is_beyond_end(section, store, count, at_front)
         }
         Entry::Refused(r) => BoolAnswer::Refused(r),
     }

@@ -2,4 +2,3 @@
 pub mod Answer
 pub mod Lists
 pub mod Numbers
-pub mod Refusals

@@ -2,11 +2,10 @@
 
 ghost use mathlib.Core.Path.{_≡_};
 ghost use lib.Ieee.Scale.{finite};
-ghost use Rattle.errors.specs.Answer.{watched};
 ghost use Rattle.errors.specs.Numbers.{isPlus};
-ghost use Rattle.errors.specs.Refusals.{numberOf, listedScalar};
+ghost use Rattle.errors.specs.Answer.{watched, numberOf, listedScalar};
 
-// Why no result is returned. The comment at each case is its meaning; `numberOf` in specs/ lists the number.
+// Why no result is returned. The comment at each case is its number and meaning; `numberOf` in specs/ lists the numbers. 14, spent, is an ending of runs alone and no refusal.
 pub enum Refusal {
     // 1: an odd count of numbers, fewer than 2 points, or too many.
     PointCount,
@@ -34,8 +33,6 @@ pub enum Refusal {
     NotFinite,
     // 13: the advance finds no line.
     NoAdvance,
-    // 14: spent, one more unit is wanted than the limit.
-    Spent,
     // 15: a circle would be accepted and no slot is free.
     StoreFull,
     // 16: a 65th circle would wait in a refinement.
@@ -74,7 +71,6 @@ pub fn number(refusal: Refusal) -> u32
         Refusal::ZeroLength => 11,
         Refusal::NotFinite => 12,
         Refusal::NoAdvance => 13,
-        Refusal::Spent => 14,
         Refusal::StoreFull => 15,
         Refusal::StackFull => 16,
         Refusal::ClosedSection => 17,

@@ -7,7 +7,7 @@ use lib.ListN.{length}
 use lib.Ieee.{Float}
 use Rattle.curve2.specs.Section.{pointAt}
 use Rattle.curve2.specs.Entry.{HasPoints}
-use Rattle.vertices.specs.Stations.{vertex, lastVertex}
+use Rattle.curve2.specs.Stations.{vertex, lastVertex}
 
 pub end-vertex : (ns : List Float) → HasPoints ns → vertex ns (lastVertex ns) ≡ pointAt ns (length ns - 2)
 end-vertex ns h = ap (λ (k : ℕ). pointAt ns k) (omega (arith, h .even, h .least))

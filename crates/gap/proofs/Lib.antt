@@ -1,2 +1,4 @@
 -- The last point of a section.
 pub mod Laws
+pub mod RoundLaws
+pub mod RoundsLaws

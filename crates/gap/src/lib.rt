@@ -1,18 +1,21 @@
 // The gap of an open section, and where the camber line, drawn on, meets it.
-use ends::Pair;
+pub mod checked;
+mod probe;
+mod round;
+
 use errors::Refusal;
 use line2::Line2;
-use line2::LineAnswer;
 use line2::LineParams;
 use line2::ParamsAnswer;
+use line2::surface2::SurfacePointAnswer;
+use lists::ends;
+use lists::ends::Pair;
 use points::Point2;
 use points::PointAnswer;
-use surface2::SurfacePointAnswer;
 ghost use mathlib.Core.Path.{_≡_};
 ghost use mathlib.Core.Option.{some};
-ghost use Rattle.points.specs.Listed.{listedPoint};
-ghost use Rattle.curve2.specs.Entry.{HasPoints};
-ghost use Rattle.gap.specs.Gap.{gapOf, listedGap, capPoint, capIntersection};
+ghost use Rattle.points.specs.Points.{listedPoint};
+ghost use Rattle.gap.specs.Gap.{capPoint, capIntersection};
 
 // The gap of an open section: its ends, and the chord between them.
 pub struct Gap {
@@ -27,20 +30,44 @@ pub enum GapAnswer {
     Refused(Refusal),
 }
 
-// The gap from the last point of a section to its first: 17 where the section is closed.
-pub fn open_gap_segment(section: &[f64], section_tol: f64) -> GapAnswer
-    requires { ⌜ HasPoints (now section) ⌝ }
-    ensures { λ r. ⌜ listedGap r ≡ gapOf (now (section .entry)) «section_tol» ⌝ }
-{
-    if curve2::is_closed(section, section_tol) {
-        return GapAnswer::Refused(Refusal::ClosedSection);
+// How a fit ends: with the edge point, spent, or refused.
+pub enum EdgeEnd {
+    Fitted(Point2),
+    // One more unit is wanted than the limit: 14.
+    Spent,
+    Refused(Refusal),
+}
+
+// What a fit returns: its ending, the count of circles in the store, and the units taken.
+pub struct EdgeFit {
+    pub end: EdgeEnd,
+    pub count: usize,
+    pub units: u32,
+}
+
+impl EdgeFit {
+    // A fit that ends with its point.
+    pub fn fitted(point: Point2, count: usize, units: u32) -> EdgeFit
+        ensures { λ x. ⌜ x ≡ record { end = EdgeEnd.Fitted point; count = count; units = units } ⌝ }
+    {
+        let end = EdgeEnd::Fitted(point);
+        EdgeFit { end, count, units }
     }
-    let end = section.len() / 2 - 1;
-    let a = vertices::vertex_at(section, 0);
-    let b = vertices::vertex_at(section, end);
-    match Line2::from_points(a, b) {
-        LineAnswer::Value(chord) => GapAnswer::Value(Gap { a, b, chord }),
-        LineAnswer::Refused(r) => GapAnswer::Refused(r),
+
+    // A fit that is spent.
+    pub fn spent(count: usize, units: u32) -> EdgeFit
+        ensures { λ x. ⌜ x ≡ record { end = EdgeEnd.Spent; count = count; units = units } ⌝ }
+    {
+        let end = EdgeEnd::Spent;
+        EdgeFit { end, count, units }
+    }
+
+    // A fit that ends in a refusal.
+    pub fn refused(r: Refusal, count: usize, units: u32) -> EdgeFit
+        ensures { λ x. ⌜ x ≡ record { end = EdgeEnd.Refused r; count = count; units = units } ⌝ }
+    {
+        let end = EdgeEnd::Refused(r);
+        EdgeFit { end, count, units }
     }
 }
 

@@ -9,15 +9,16 @@ use lib.ListN.{length, take, length-append, length-map}
 use lib.Ieee.{Float}
 use Rattle.points.specs.declared.Point2.{Point2}
 use Rattle.curve2.specs.Section.{pointsOf}
-use Rattle.keeping.specs.Kept.{numbersOf, placed}
-use Rattle.keeping.specs.Keeping.{put}
-use Rattle.keeping.proofs.Numbers.{points-numbers}
-use Rattle.keeping.proofs.Keeping.{put-holding}
+use Rattle.cleaning.specs.Cleaning.{pointNumbers, placed}
+use Rattle.cleaning.specs.Code.{put}
+use Rattle.cleaning.proofs.Numbers.{points-numbers}
+use Rattle.cleaning.proofs.HeldLaws.{put-holding}
 use Rattle.cleaning.proofs.Made.{held-output, first-numbers, first-length}
 use Rattle.inscribed.specs.Circles.{center}
 use Rattle.inscribed.specs.Store.{circleAt, circlesFrom, circlesOf}
 use Rattle.inscribed.proofs.StoreLaws.{length-circles}
-use Rattle.geometry.specs.Camber.{centers, putAll}
+use Rattle.geometry.specs.Camber.{centers}
+use Rattle.geometry.specs.Code.{putAll}
 
 -- ---- points put one after the other
 
@@ -30,14 +31,14 @@ put-all ps (q ∷ qs) old h =
     rw (one, long) (put-all (ps ++ (q ∷ [])) qs old (omega (arith, long)) ∙ ap (λ (l : List Point2). placed l old) (append-assoc ps (q ∷ []) qs))
 
 put-first : (qs : List Point2) (old : List Float) → 2 * length qs ≤ length old → putAll 0 qs old ≡ placed qs old
-unfolding numbersOf
+unfolding pointNumbers
 put-first qs old h = put-all [] qs old (omega arith)
 
 -- between two others
 module _ (p q : Point2) (qs : List Point2) (old a b d : List Float) (first : a ≡ put 0 p old .output) (more : b ≡ putAll 1 qs a) (last : d ≡ put (1 + length qs) q b .output)
     (room : 2 * (length qs + 2) ≤ length old) where
   first-is : a ≡ placed (p ∷ []) old
-  unfolding numbersOf
+  unfolding pointNumbers
   first-is = first ∙ held-output old (p ∷ []) _ (put-holding old [] p (omega arith))
 
   more-is : b ≡ placed (p ∷ qs) old

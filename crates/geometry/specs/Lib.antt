@@ -1,2 +1,3 @@
 -- Camber curves.
 pub mod Camber
+pub mod Code

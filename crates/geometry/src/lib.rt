@@ -1,40 +1,17 @@
 // Camber curves: through the centres of the circles in a store, alone or between two end points.
+pub mod centers;
+pub mod checked;
+
 use cleaning::CurveAnswer;
 use curve2::Entry;
 use points::Point2;
-ghost use mathlib.Core.Path.{_≡_};
 ghost use mathlib.Core.Bool.{false};
 ghost use mathlib.Core.List.{_∷_, [], _++_};
 ghost use Prim.Native.Nat.{_+_, _*_, _≤_};
 ghost use lib.ListN.{length};
 ghost use Rattle.cleaning.specs.Cleaning.{curveOf, Made};
-ghost use Rattle.geometry.specs.Camber.{centers, camberCurve, camberCurveBetween, putAll};
-
-// Puts the centres of the first circles one after the other, the first at place `first`.
-fn put_centers(store: &[f64], count: usize, points: &mut [f64], first: usize)
-    requires { ⌜ (count * 7 ≤ length (now store)) × (2 * (first + count) ≤ length (now points)) ⌝ }
-    ensures { λ _. ⌜ now (points .exit) ≡ putAll first (centers (now (store .entry)) count) (now (points .entry)) ⌝ }
-{
-    let mut k: usize = 0;
-    while k < count {
-        let c = inscribed::store::circle_at(store, k);
-        let p = c.center();
-        keeping::put(points, first + k, p);
-        k += 1;
-    }
-}
-
-// The curve through the centres of a store whose count and output have been tested: 5 where fewer than two are kept.
-pub fn centers_curve(store: &[f64], count: usize, tol: f64, out: &mut [f64]) -> CurveAnswer
-    requires { ⌜ (count * 7 ≤ length (now store)) × (1 ≤ count) × (count ≤ 1024) ⌝ }
-    requires { ⌜ 2 * count + 2 ≤ length (now out) ⌝ }
-    ensures { λ r. ⌜ Made (curveOf tol false (centers (now (store .entry)) count)) tol (now (out .entry)) (now (out .exit)) r ⌝ }
-{
-    let mut points = [0.0; 2052];
-    put_centers(store, count, &mut points, 0);
-    let n = 2 * count;
-    cleaning::clean_points(&points[..n], tol, false, out)
-}
+ghost use Rattle.geometry.specs.Camber.{centers, camberCurve, camberCurveBetween};
+ghost use Rattle.inscribed.specs.Store.{width, mostSlots};
 
 // The same between two end points.
 fn curve_between(
@@ -45,16 +22,16 @@ fn curve_between(
     tol: f64,
     out: &mut [f64],
 ) -> CurveAnswer
-    requires { ⌜ (count * 7 ≤ length (now store)) × (count ≤ 1024) ⌝ }
+    requires { ⌜ (count * width ≤ length (now store)) × (count ≤ mostSlots) ⌝ }
     requires { ⌜ 2 * (count + 2) + 2 ≤ length (now out) ⌝ }
     ensures { λ r. ⌜ Made (curveOf tol false («le_point» ∷ (centers (now (store .entry)) count ++ («te_point» ∷ [])))) tol (now (out .entry)) (now (out .exit)) r ⌝ }
 {
     let mut points = [0.0; 2052];
-    keeping::put(&mut points, 0, le_point);
-    put_centers(store, count, &mut points, 1);
-    keeping::put(&mut points, 1 + count, te_point);
+    cleaning::checked::put(&mut points, 0, le_point);
+    checked::put_centers(store, count, &mut points, 1);
+    cleaning::checked::put(&mut points, 1 + count, te_point);
     let n = 2 * (count + 2);
-    cleaning::clean_points(&points[..n], tol, false, out)
+    cleaning::checked::clean_points(&points[..n], tol, false, out)
 }
 
 // The curve through the centres of the circles in use, cleaned. The output keeps what stands behind it.
@@ -62,7 +39,7 @@ pub fn camber_curve(store: &[f64], count: usize, tol: f64, out: &mut [f64]) -> C
     ensures { λ r. ⌜ Made (camberCurve (now (store .entry)) count tol (length (now (out .entry)))) tol (now (out .entry)) (now (out .exit)) r ⌝ }
 {
     match centers::entered(store, count, tol, false, 0, out.len()) {
-        Entry::Passed => centers_curve(store, count, tol, out),
+        Entry::Passed => checked::centers_curve(store, count, tol, out),
         Entry::Refused(r) => CurveAnswer::Refused(r),
     }
 }

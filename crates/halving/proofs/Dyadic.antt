@@ -81,9 +81,9 @@ dyadic a k = round binary64 false a (2 ^ k)
 
 dyadic-value : (a k : ℕ) → a < 2 ^ 53 → k ≤ 52 → HasValue (dyadic a k) false a (2 ^ k)
 dyadic-value a k small h =
-    let under : 53 + (1074 - k) ≤ 1074 + 1024 = omega arith in
+    let underLimit : 53 + (1074 - k) ≤ 1074 + 1024 = omega arith in
     round-exact binary64 false a (2 ^ k) a (1074 - k) (pow-pos k) small
-    (lt-of-lt-of-le (shl-lt 53 (1074 - k) small) (pow-mono under))
+    (lt-of-lt-of-le (shl-lt 53 (1074 - k) small) (pow-mono underLimit))
     (ap (λ (z : ℕ). a * z) (ap (λ (z : ℕ). 2 ^ z) (sym (back 1074 k (omega arith))) ∙ pow-add 2 (1074 - k) k) ∙ sym (mul-assoc a (2 ^ (1074 - k)) (2 ^ k)))
 
 half-value : HasValue f½ false 1 2

@@ -1,3 +1,4 @@
 -- Laws that belong to no one function.
 pub mod Dyadic
 pub mod HalvingLaws
+pub mod HalvingSteps

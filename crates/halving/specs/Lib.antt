@@ -1,3 +1,4 @@
 -- The circle of a crossing, by halving.
 pub mod Halving
-pub mod HalvedFrom
+pub mod Code
+pub mod SourceLoop

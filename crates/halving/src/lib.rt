@@ -1,69 +1,13 @@
-// The circle of a crossing, by halving.
-use bisection::InscribedEnd;
+// The circle of a crossing, by halving, and the circle on a line.
+mod bisection;
+pub mod checked;
+
 use errors::Refusal;
-use errors::ScalarAnswer;
-use inscribed::InscribedAnswer;
-use line2::Line2;
-use points::PointAnswer;
-use queries::Crossing;
-ghost use mathlib.Core.Path.{_≡_};
-ghost use Rattle.curve2.specs.Entry.{HasPoints};
-ghost use Rattle.inscribed.specs.Circles.{listedInscribed};
-ghost use Rattle.halving.specs.Halving.{fromLine, fromCrossing};
-ghost use Rattle.halving.specs.HalvedFrom.{halvedFrom};
+use inscribed::Inscribed;
 
-// 2 to the power -52.
-const TWO_TO_MINUS_52: f64 = 2.220446049250313e-16;
-
-// Halves from the ends of the line.
-fn halved_from(section: &[f64], line: Line2, resolve: f64, len: f64) -> InscribedAnswer
-    requires { ⌜ HasPoints (now section) ⌝ }
-    ensures { λ r. ⌜ listedInscribed r ≡ halvedFrom (now (section .entry)) line resolve len ⌝ }
-{
-    match line.at(1.0) {
-        PointAnswer::Value(p1) => match line.at(0.0) {
-            PointAnswer::Value(p0) => {
-                let pos = InscribedEnd {
-                    f: 1.0,
-                    d: 0.0,
-                    p: p1,
-                };
-                let neg = InscribedEnd {
-                    f: 0.0,
-                    d: 0.0,
-                    p: p0,
-                };
-                bisection::halving_loop(section, line, resolve, len, pos, neg)
-            }
-            PointAnswer::Refused(r) => InscribedAnswer::Refused(r),
-        },
-        PointAnswer::Refused(r) => InscribedAnswer::Refused(r),
-    }
-}
-
-// The circle on a line from one side of the section to the other: 10 where the line is too long for the tolerance.
-fn from_line(section: &[f64], tol: f64, line: Line2) -> InscribedAnswer
-    requires { ⌜ HasPoints (now section) ⌝ }
-    ensures { λ r. ⌜ listedInscribed r ≡ fromLine (now (section .entry)) tol line ⌝ }
-{
-    let direction = line.direction;
-    let resolve = tol * 0.1;
-    match direction.norm() {
-        ScalarAnswer::Value(len) => {
-            if resolve < TWO_TO_MINUS_52 * len {
-                return InscribedAnswer::Refused(Refusal::TooLong);
-            }
-            halved_from(section, line, resolve, len)
-        }
-        ScalarAnswer::Refused(r) => InscribedAnswer::Refused(r),
-    }
-}
-
-// The circle of a crossing.
-pub fn from_crossing(section: &[f64], tol: f64, crossing: Crossing) -> InscribedAnswer
-    requires { ⌜ HasPoints (now section) ⌝ }
-    ensures { λ r. ⌜ listedInscribed r ≡ fromCrossing (now (section .entry)) tol crossing ⌝ }
-{
-    let line = crossing.line;
-    from_line(section, tol, line)
+// A circle, none, or a refusal.
+pub enum TriedAnswer {
+    Value(Inscribed),
+    Nothing,
+    Refused(Refusal),
 }

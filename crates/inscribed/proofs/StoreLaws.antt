@@ -15,9 +15,10 @@ use Rattle.errors.specs.Answer.{result, refusal}
 use Rattle.errors.specs.declared.Refusal.{Refusal}
 use Rattle.curve2.specs.Entry.{listedEntry}
 use Rattle.curve2.specs.declared.Entry.{Entry}
-use Rattle.inscribed.specs.Store.{numbersOf, circleFrom, circleAt, circlesFrom, circlesOf, allNumbers, stored, badCircle, anyBad, slots, badStore, badStoreCount}
-use Rattle.inscribed.specs.Parts.{withCircle, circlesEntry, numbersFrom}
+use Rattle.inscribed.specs.Store.{numbersOf, circleFrom, circleAt, circlesFrom, circlesOf, allNumbers, stored, badCircle, anyBad, slots, badStore, badStoreCount, circlesEntry, numbersFrom}
+use Rattle.inscribed.specs.Code.{withCircle}
 use Rattle.inscribed.specs.declared.Inscribed.{Inscribed}
+use Rattle.errors.specs.declared.Refusal.the-variants.{BadNumber, NoRoom}
 
 -- ---- how many numbers
 
@@ -176,7 +177,7 @@ entry-bounds : (ns : List Float) (count place : ℕ) → circlesEntry ns count p
 unfolding circlesEntry
 entry-bounds ns count place e = go (badStore ns count) (badStoreCount ns count) (ltb count place) refl refl e
   where
-    go : (a b d : Bool) → badStoreCount ns count ≡ b → ltb count place ≡ d → cond a (refusal 2) (cond (b || d) (refusal 4) (result (tt {0}))) ≡ result (tt {0}) → (place ≤ count) × (count * 7 ≤ length ns)
+    go : (a b d : Bool) → badStoreCount ns count ≡ b → ltb count place ≡ d → cond a (refusal BadNumber) (cond (b || d) (refusal NoRoom) (result (tt {0}))) ≡ result (tt {0}) → (place ≤ count) × (count * 7 ≤ length ns)
     go true b d p q f = let z : _≡_ {A = ℕ} 0 1 = cc in absurd (omega arith)
     go false true d p q f = let z : _≡_ {A = ℕ} 0 1 = cc in absurd (omega arith)
     go false false true p q f = let z : _≡_ {A = ℕ} 0 1 = cc in absurd (omega arith)

@@ -1,13 +1,12 @@
 -- A circle: centre x, y, radius, contact p0 x, y, contact p1 x, y. Assumes nothing.
 use lib.Ieee.{Float}
 use Rattle.errors.specs.Answer.{Answer, result, refusal}
-use Rattle.errors.specs.Refusals.{numberOf}
 use Rattle.points.specs.Points.{minus, rotated}
 use Rattle.points.specs.declared.Point2.{Point2}
 use Rattle.points.specs.declared.Vector2.{Vector2}
 use Rattle.points.specs.declared.AngleDir.the-variants.{Cw}
-use Rattle.surface2.specs.Rays.{rayNormalized}
-use Rattle.surface2.specs.declared.SurfacePoint2.{SurfacePoint2}
+use Rattle.line2.specs.Rays.{rayNormalized}
+use Rattle.line2.specs.declared.surface2.SurfacePoint2.{SurfacePoint2}
 use Rattle.curve2.specs.Section.{point}
 use Rattle.inscribed.specs.declared.Inscribed.{Inscribed}
 use Rattle.inscribed.specs.declared.InscribedAnswer.{InscribedAnswer}
@@ -38,4 +37,4 @@ reversedPoints c = inscribed (center c) (c .r) (contact1 c) (contact0 c)
 
 abbrev pub listedInscribed : InscribedAnswer → Answer Inscribed
 listedInscribed (InscribedAnswer.Value c) = result c
-listedInscribed (InscribedAnswer.Refused r) = refusal (numberOf r)
+listedInscribed (InscribedAnswer.Refused r) = refusal r

@@ -1,4 +1,5 @@
 -- Inscribed circles: the circle, and the store that holds its seven numbers.
 pub mod Circles
 pub mod Store
-pub mod Parts
+pub mod Lists
+pub mod Code

@@ -1,13 +1,16 @@
--- A store: "the caller's f64 slice with a count of circles in use, packed from its start". Assumes nothing.
+-- The store of circles: "the caller's f64 slice with a count of circles in use, packed from its start", its entry tests, and the circles from a stated place on. Assumes nothing.
 use mathlib.Core.Bool.{Bool, false, not, _&&_, _||_}
 use mathlib.Core.List.{List, [], _∷_, _++_}
-use Prim.Native.Nat.{ℕ, zero, suc, _+_, _*_, _/_, min}
+use Prim.Native.Nat.{ℕ, zero, suc, _+_, _*_, _/_, min, _-_}
 use lib.Dec.{ltb}
-use lib.ListN.{length, getD, drop}
+use lib.ListN.{length, getD, drop, take}
 use lib.Ieee.{Float, nan, lt}
 use lib.Ieee.Scale.{finite}
 use Rattle.points.specs.Numbers.{f0}
 use Rattle.inscribed.specs.declared.Inscribed.{Inscribed}
+use Rattle.errors.specs.Answer.{Answer, result, refusal}
+use Rattle.curve2.specs.Entry.{tested}
+use Rattle.errors.specs.declared.Refusal.the-variants.{BadNumber, NoRoom}
 
 -- a circle's numbers, in stored order, and how many they are
 abbrev pub width : ℕ
@@ -26,11 +29,11 @@ abbrev pub circleAt : List Float → ℕ → Inscribed
 circleAt ns k = circleFrom ns (k * width)
 
 -- "It holds its length divided by 7, rounded down, and at most 1,024."
-abbrev pub slotsUpTo : ℕ → List Float → ℕ
-slotsUpTo most ns = min (length ns / width) most
+abbrev pub mostSlots : ℕ
+mostSlots = 1024
 
 abbrev pub slots : List Float → ℕ
-slots ns = slotsUpTo 1024 ns
+slots ns = min (length ns / width) mostSlots
 
 -- the circles in the first n slots, first to last
 unfoldable pub circlesFrom : List Float → ℕ → ℕ → List Inscribed
@@ -69,3 +72,17 @@ badStore ns count = anyBad (circlesOf ns (min count (slots ns)))
 -- 4: "stated count above what the store holds"
 abbrev pub badStoreCount : List Float → ℕ → Bool
 badStoreCount ns count = ltb (slots ns) count
+
+-- whether the circles from a place on can be handed out: 2 for a bad circle in use, 4 for a count above what the store holds or a place above the count
+unfoldable pub circlesEntry : List Float → ℕ → ℕ → Answer (Unit {0})
+circlesEntry ns count place = tested ((BadNumber, badStore ns count) ∷ (NoRoom, badStoreCount ns count || ltb count place) ∷ [])
+
+-- numbers that are handed out only where the entry passed
+abbrev pub ifPassed : Answer (Unit {0}) → List Float → List Float
+ifPassed (result u) part = part
+ifPassed (refusal r) part = []
+
+-- the numbers of the circles in use from a place on
+unfoldable pub numbersFrom : List Float → ℕ → ℕ → List Float
+unfolding circlesEntry
+numbersFrom ns count place = ifPassed (circlesEntry ns count place) (take ((count - place) * width) (drop (place * width) ns))

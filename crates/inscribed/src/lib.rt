@@ -1,15 +1,16 @@
 // Inscribed circles: the circle, and the store that holds its seven numbers.
+pub mod checked;
+pub mod store;
+
 use errors::Refusal;
+use line2::surface2::SurfacePoint2;
+use line2::surface2::SurfacePointAnswer;
 use points::AngleDir;
 use points::Point2;
 use points::Vector2;
-use surface2::SurfacePoint2;
-use surface2::SurfacePointAnswer;
 ghost use mathlib.Core.Path.{_≡_};
-ghost use Rattle.surface2.specs.Listed.{listedRay};
+ghost use Rattle.line2.specs.Rays.{listedRay};
 ghost use Rattle.inscribed.specs.Circles.{center, contactDir, camberPoint, reversedPoints};
-
-pub mod store;
 
 // An inscribed circle: centre, radius, and the two points where it touches the section.
 pub struct Inscribed {
@@ -25,6 +26,18 @@ pub struct Inscribed {
 // A circle, or why there is none.
 pub enum InscribedAnswer {
     Value(Inscribed),
+    Refused(Refusal),
+}
+
+// The first and the last circle of a list.
+pub struct FrontAndBack {
+    pub front: Inscribed,
+    pub back: Inscribed,
+}
+
+// Both ends, or why there are none.
+pub enum FrontAndBackAnswer {
+    Value(FrontAndBack),
     Refused(Refusal),
 }
 

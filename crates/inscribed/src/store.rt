@@ -1,64 +1,18 @@
 // The store of circles: the caller's numbers, seven to a circle, packed from the start. A circle's numbers are read by `circle_at` and written by `put_circle` alone.
 use crate::Inscribed;
+use crate::checked;
 use curve2::Entry;
 use errors::Refusal;
 ghost use mathlib.Core.Path.{_≡_};
-ghost use Prim.Native.Nat.{_+_, _*_, _/_, _≤_, min};
-ghost use lib.ListN.{length};
+ghost use Prim.Native.Nat.{_+_, _*_, _/_, min};
 ghost use Rattle.curve2.specs.Entry.{listedEntry};
-ghost use Rattle.inscribed.specs.Store.{circleAt, badCircle, badStore, badStoreCount};
-ghost use Rattle.inscribed.specs.Parts.{withCircle, circlesEntry, numbersFrom};
+ghost use Rattle.inscribed.specs.Store.{width, mostSlots, badCircle, badStore, badStoreCount, circlesEntry, numbersFrom};
 
-// The circle in slot k.
-pub fn circle_at(store: &[f64], k: usize) -> Inscribed
-    requires { ⌜ (k + 1) * 7 ≤ length (now store) ⌝ }
-    ensures { λ r. ⌜ r ≡ circleAt (now (store .entry)) k ⌝ }
-{
-    let i = k * 7;
-    let i1 = i + 1;
-    let i2 = i + 2;
-    let i3 = i + 3;
-    let i4 = i + 4;
-    let i5 = i + 5;
-    let i6 = i + 6;
-    let cx = store[i];
-    let cy = store[i1];
-    let r = store[i2];
-    let p0x = store[i3];
-    let p0y = store[i4];
-    let p1x = store[i5];
-    let p1y = store[i6];
-    Inscribed {
-        cx,
-        cy,
-        r,
-        p0x,
-        p0y,
-        p1x,
-        p1y,
-    }
-}
+// How many numbers a circle has in a store.
+pub const WIDTH: usize = 7;
 
-// Writes a circle into slot k.
-pub fn put_circle(store: &mut [f64], k: usize, c: Inscribed)
-    requires { ⌜ (k + 1) * 7 ≤ length (now store) ⌝ }
-    ensures { λ _. ⌜ now (store .exit) ≡ withCircle (now (store .entry)) k c ⌝ }
-{
-    let i = k * 7;
-    let i1 = i + 1;
-    let i2 = i + 2;
-    let i3 = i + 3;
-    let i4 = i + 4;
-    let i5 = i + 5;
-    let i6 = i + 6;
-    store[i] = c.cx;
-    store[i1] = c.cy;
-    store[i2] = c.r;
-    store[i3] = c.p0x;
-    store[i4] = c.p0y;
-    store[i5] = c.p1x;
-    store[i6] = c.p1y;
-}
+// How many circles a store holds at most.
+pub const MOST_SLOTS: usize = 1024;
 
 // The lesser of two numbers.
 pub fn least(a: usize, b: usize) -> usize
@@ -67,11 +21,11 @@ pub fn least(a: usize, b: usize) -> usize
     if a < b { a } else { b }
 }
 
-// How many circles a store of `len` numbers holds, at most `most`.
-pub fn slots_up_to(most: usize, len: usize) -> usize
-    ensures { λ r. ⌜ r ≡ min (len / 7) most ⌝ }
+// How many circles a store of `len` numbers holds.
+pub fn slots_in(len: usize) -> usize
+    ensures { λ r. ⌜ r ≡ min (len / width) mostSlots ⌝ }
 {
-    least(len / 7, most)
+    least(len / WIDTH, MOST_SLOTS)
 }
 
 // A number that isn't finite, or a radius below zero.
@@ -113,10 +67,10 @@ pub fn is_bad_circle(c: Inscribed) -> bool
 pub fn has_bad_circle(store: &[f64], count: usize) -> bool
     ensures { λ r. ⌜ r ≡ badStore (now (store .entry)) count ⌝ }
 {
-    let n = least(count, slots_up_to(1024, store.len()));
+    let n = least(count, slots_in(store.len()));
     let mut k: usize = 0;
     while k < n {
-        if is_bad_circle(circle_at(store, k)) {
+        if is_bad_circle(checked::circle_at(store, k)) {
             return true;
         }
         k += 1;
@@ -128,11 +82,17 @@ pub fn has_bad_circle(store: &[f64], count: usize) -> bool
 pub fn is_bad_store_count(store: &[f64], count: usize) -> bool
     ensures { λ r. ⌜ r ≡ badStoreCount (now (store .entry)) count ⌝ }
 {
-    slots_up_to(1024, store.len()) < count
+    slots_in(store.len()) < count
+}
+
+// A part of a store and the answer of the entry tests: no numbers where they refuse.
+pub struct Part<'a> {
+    pub numbers: &'a [f64],
+    pub entry: Entry,
 }
 
 // Whether the circles from a place on can be handed out.
-pub fn check_circles_from(store: &[f64], count: usize, place: usize) -> Entry
+fn check_circles_from(store: &[f64], count: usize, place: usize) -> Entry
     ensures { λ r. ⌜ listedEntry r ≡ circlesEntry (now (store .entry)) count place ⌝ }
 {
     if has_bad_circle(store, count) {
@@ -147,16 +107,26 @@ pub fn check_circles_from(store: &[f64], count: usize, place: usize) -> Entry
     Entry::Passed
 }
 
-// The numbers of the circles in use from a place on, as a part of the store; none where `check_circles_from` refuses.
-pub fn circles_from(store: &[f64], count: usize, place: usize) -> &[f64]
+// The numbers from a place on, of a store whose tests were made; none where they refuse.
+fn part_of(store: &[f64], count: usize, place: usize, entry: Entry) -> &[f64]
+    requires { ⌜ listedEntry entry ≡ circlesEntry (now store) count place ⌝ }
     ensures { λ r. ⌜ now r ≡ numbersFrom (now (store .entry)) count place ⌝ }
 {
-    match check_circles_from(store, count, place) {
+    match entry {
         Entry::Passed => {
-            let start = place * 7;
-            let end = count * 7;
+            let start = place * WIDTH;
+            let end = count * WIDTH;
             &store[start..end]
         }
         Entry::Refused(_) => &store[0..0],
     }
+}
+
+// The numbers of the circles in use from a place on, as a part of the store, or why they are not handed out: 2 or 4. There are none from the place behind the last.
+pub fn circles_from<'a>(store: &'a [f64], count: usize, place: usize) -> Part<'a>
+    ensures { λ r. ⌜ (now (r .numbers) ≡ numbersFrom (now (store .entry)) count place) × (listedEntry (r .entry) ≡ circlesEntry (now (store .entry)) count place) ⌝ }
+{
+    let entry = check_circles_from(store, count, place);
+    let numbers = part_of(store, count, place, entry);
+    Part { numbers, entry }
 }

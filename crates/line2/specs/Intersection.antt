@@ -2,12 +2,13 @@
 use mathlib.Core.Bool.{cond}
 use mathlib.Core.Option.{Option, some, none}
 use lib.Ieee.{Float}
-use Rattle.errors.specs.Answer.{Answer, result, watched, _>>=_}
-use Rattle.points.specs.Numbers.{_-f_, _*f_, _/f_, tiny, within}
+use Rattle.errors.specs.Answer.{Answer, result, refusal, watched, _>>=_}
+use Rattle.points.specs.Numbers.{_-f_, _*f_, _/f_, tiny, isWithin}
 use Rattle.points.specs.Points.{minus}
 use Rattle.points.specs.declared.Vector2.{Vector2}
 use Rattle.line2.specs.declared.Line2.{Line2}
 use Rattle.line2.specs.declared.LineParams.{LineParams}
+use Rattle.line2.specs.declared.ParamsAnswer.{ParamsAnswer}
 
 -- Cramer's rule for a line (o, d) and an edge's line (v, e), with w = v - o
 
@@ -36,7 +37,14 @@ edgeFraction l k =
 unfoldable pub intersectionParam : Line2 → Line2 → Answer (Option LineParams)
 intersectionParam l k =
     watched (determinant l k) >>= λ det.
-    cond (within tiny det) (result none)
+    cond (isWithin tiny det) (result none)
     (watched (lineFraction l k) >>= λ t.
     watched (edgeFraction l k) >>= λ s.
     result (some (record { t = t; s = s })))
+
+-- ---- what the answer lists: the fractions, none of parallel lines, or the refusal
+
+abbrev pub listedParams : ParamsAnswer → Answer (Option LineParams)
+listedParams (ParamsAnswer.Value p) = result (some p)
+listedParams ParamsAnswer.Parallel = result none
+listedParams (ParamsAnswer.Refused r) = refusal r

@@ -1,4 +1,4 @@
--- Lines: what each step gives, bit for bit.
+-- Lines, where a line meets the line of an edge, and surface points: what each step gives, bit for bit.
 pub mod Lines
 pub mod Intersection
-pub mod Listed
+pub mod Rays

@@ -1,10 +1,11 @@
 -- Lines: origin and direction. Assumes nothing.
 use lib.Ieee.{Float}
-use Rattle.errors.specs.Answer.{Answer, result, _>>=_}
+use Rattle.errors.specs.Answer.{Answer, result, refusal, _>>=_}
 use Rattle.points.specs.Points.{watchedPoint, minus, moved, negated, difference, dotOf, normalized}
 use Rattle.points.specs.declared.Point2.{Point2}
 use Rattle.points.specs.declared.Vector2.{Vector2}
 use Rattle.line2.specs.declared.Line2.{Line2}
+use Rattle.line2.specs.declared.LineAnswer.{LineAnswer}
 
 abbrev pub lineOf : Point2 → Vector2 → Line2
 lineOf o d = record { origin = o; direction = d }
@@ -28,3 +29,9 @@ atParam l t = watchedPoint (moved (l .origin) (l .direction) t)
 -- "a scalar projection is .. for a line direction·(p - origin)"
 unfoldable pub lineProjection : Line2 → Point2 → Answer Float
 lineProjection l p = dotOf (l .direction) (minus p (l .origin))
+
+-- ---- what the answer lists: the line, or the refusal
+
+abbrev pub listedLine : LineAnswer → Answer Line2
+listedLine (LineAnswer.Value l) = result l
+listedLine (LineAnswer.Refused r) = refusal r

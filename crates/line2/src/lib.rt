@@ -1,4 +1,6 @@
 // Lines, and where a line meets the line of an edge.
+pub mod surface2;
+
 use errors::Refusal;
 use errors::ScalarAnswer;
 use points::Point2;
@@ -6,11 +8,10 @@ use points::PointAnswer;
 use points::Vector2;
 use points::VectorAnswer;
 ghost use mathlib.Core.Path.{_≡_};
-ghost use Rattle.errors.specs.Refusals.{listedScalar};
-ghost use Rattle.points.specs.Listed.{listedPoint};
-ghost use Rattle.line2.specs.Listed.{listedLine, listedParams};
-ghost use Rattle.line2.specs.Lines.{lineThrough, lineNormalized, reversedLine, atParam, lineProjection};
-ghost use Rattle.line2.specs.Intersection.{intersectionParam};
+ghost use Rattle.errors.specs.Answer.{listedScalar};
+ghost use Rattle.points.specs.Points.{listedPoint};
+ghost use Rattle.line2.specs.Lines.{listedLine, lineThrough, lineNormalized, reversedLine, atParam, lineProjection};
+ghost use Rattle.line2.specs.Intersection.{listedParams, intersectionParam};
 
 pub struct Line2 {
     pub origin: Point2,

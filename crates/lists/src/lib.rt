@@ -1,17 +1,20 @@
 // The list helpers: what is told of the circles in use of a store, and their order and contacts turned. Each function makes the entry tests of the store first.
+pub mod checked;
+pub mod ends;
+pub mod records;
+
 use curve2::Entry;
 use errors::Refusal;
 use errors::ScalarAnswer;
+use inscribed::FrontAndBackAnswer;
 use line2::LineAnswer;
-use measures::FrontAndBackAnswer;
 ghost use mathlib.Core.Path.{_≡_};
 ghost use mathlib.Core.List.{map, reverse};
-ghost use Rattle.errors.specs.Refusals.{listedScalar};
-ghost use Rattle.line2.specs.Listed.{listedLine};
+ghost use Rattle.errors.specs.Answer.{listedScalar};
+ghost use Rattle.line2.specs.Lines.{listedLine};
 ghost use Rattle.curve2.specs.Entry.{listedEntry};
 ghost use Rattle.inscribed.specs.Circles.{reversedPoints};
-ghost use Rattle.turning.specs.Turned.{turned};
-ghost use Rattle.measures.specs.Lists.{listedEnds};
+ghost use Rattle.inscribed.specs.Lists.{turned, listedEnds};
 ghost use Rattle.lists.specs.Asked.{storeEntry, endsAsked, tmaxAsked, spacingAsked, clipAsked, listedPlace, Changed};
 
 // A place in a list, or why there is none.
@@ -21,7 +24,7 @@ pub enum PlaceAnswer {
 }
 
 // The entry tests of a store with a stated count.
-pub fn check_store(store: &[f64], count: usize) -> Entry
+pub(crate) fn check_store(store: &[f64], count: usize) -> Entry
     ensures { λ r. ⌜ listedEntry r ≡ storeEntry (now (store .entry)) count ⌝ }
 {
     if inscribed::store::has_bad_circle(store, count) {
@@ -38,7 +41,7 @@ pub fn front_and_back(store: &[f64], count: usize) -> FrontAndBackAnswer
     ensures { λ r. ⌜ listedEnds r ≡ endsAsked (now (store .entry)) count ⌝ }
 {
     match check_store(store, count) {
-        Entry::Passed => measures::front_and_back(store, count),
+        Entry::Passed => inscribed::checked::front_and_back(store, count),
         Entry::Refused(r) => FrontAndBackAnswer::Refused(r),
     }
 }
@@ -48,7 +51,7 @@ pub fn index_of_tmax(store: &[f64], count: usize) -> PlaceAnswer
     ensures { λ r. ⌜ listedPlace r ≡ tmaxAsked (now (store .entry)) count ⌝ }
 {
     match check_store(store, count) {
-        Entry::Passed => PlaceAnswer::Value(measures::index_of_tmax(store, count)),
+        Entry::Passed => PlaceAnswer::Value(inscribed::checked::index_of_tmax(store, count)),
         Entry::Refused(r) => PlaceAnswer::Refused(r),
     }
 }
@@ -58,7 +61,7 @@ pub fn average_spacing(store: &[f64], count: usize) -> ScalarAnswer
     ensures { λ r. ⌜ listedScalar r ≡ spacingAsked (now (store .entry)) count ⌝ }
 {
     match check_store(store, count) {
-        Entry::Passed => measures::average_spacing(store, count),
+        Entry::Passed => inscribed::checked::average_spacing(store, count),
         Entry::Refused(r) => ScalarAnswer::Refused(r),
     }
 }
@@ -72,7 +75,7 @@ pub fn end_clip_line(store: &[f64], count: usize) -> LineAnswer
             if count < 2 {
                 return LineAnswer::Refused(Refusal::TooFewCircles);
             }
-            ends::clip_line(ends::last_pair(store, count))
+            ends::clip_line(crate::checked::last_pair(store, count))
         }
         Entry::Refused(r) => LineAnswer::Refused(r),
     }
@@ -84,7 +87,7 @@ pub fn reverse_points(store: &mut [f64], count: usize) -> Entry
 {
     match check_store(store, count) {
         Entry::Passed => {
-            turning::reverse_points(store, count);
+            inscribed::checked::reverse_points(store, count);
             Entry::Passed
         }
         Entry::Refused(r) => Entry::Refused(r),
@@ -97,7 +100,7 @@ pub fn reverse_order(store: &mut [f64], count: usize) -> Entry
 {
     match check_store(store, count) {
         Entry::Passed => {
-            turning::reverse_order(store, count);
+            inscribed::checked::reverse_order(store, count);
             Entry::Passed
         }
         Entry::Refused(r) => Entry::Refused(r),
@@ -110,7 +113,7 @@ pub fn reverse_order_only(store: &mut [f64], count: usize) -> Entry
 {
     match check_store(store, count) {
         Entry::Passed => {
-            turning::reverse_order_only(store, count);
+            inscribed::checked::reverse_order_only(store, count);
             Entry::Passed
         }
         Entry::Refused(r) => Entry::Refused(r),

@@ -17,6 +17,7 @@ use Rattle.sections.specs.declared.BoolAnswer.{BoolAnswer}
 use Rattle.inscribed.specs.Store.{circlesOf, stored, slots, badStore, badStoreCount}
 use Rattle.inscribed.specs.declared.Inscribed.{Inscribed}
 use Rattle.orient.specs.Orientation.{orientEntry, Oriented}
+use Rattle.errors.specs.declared.Refusal.the-variants.{BadNumber, NoRoom, TooFewCircles}
 
 -- ---- a store that passed
 
@@ -24,7 +25,7 @@ entry-bounds : (ns : List Float) (count : ℕ) (bad : Bool) → orientEntry ns c
 unfolding orientEntry
 entry-bounds ns count bad e = go (badStore ns count || bad) (badStoreCount ns count) (ltb count 2) refl refl e
   where
-    go : (a b d : Bool) → badStoreCount ns count ≡ b → ltb count 2 ≡ d → cond a (refusal 2) (cond b (refusal 4) (cond d (refusal 7) (result (tt {0})))) ≡ result (tt {0})
+    go : (a b d : Bool) → badStoreCount ns count ≡ b → ltb count 2 ≡ d → cond a (refusal BadNumber) (cond b (refusal NoRoom) (cond d (refusal TooFewCircles) (result (tt {0})))) ≡ result (tt {0})
         → (count * 7 ≤ length ns) × (1 ≤ count) × (count ≤ 1024)
     go true b d p q f = let z : _≡_ {A = ℕ} 0 1 = cc in absurd (omega arith)
     go false true d p q f = let z : _≡_ {A = ℕ} 0 1 = cc in absurd (omega arith)

@@ -1,33 +1,99 @@
 -- "`OrientFwdAft` is by greatest radius, by an airflow vector or by a forward vector; `OrientUpperLower` by an upper or a lower vector." Assumes nothing.
+use mathlib.Core.Bool.{Bool, not, cond, false, true, _&&_, _||_}
+use mathlib.Core.List.{List, [], _∷_, map, reverse}
 use mathlib.Core.Path.{_≡_}
-use mathlib.Core.Bool.{Bool, true, false, not, _&&_, _||_}
-use mathlib.Core.List.{List, [], _∷_}
-use Prim.Native.Nat.{ℕ}
+use Prim.Native.Nat.{ℕ, suc, _-_}
 use lib.Dec.{ltb}
-use lib.Ieee.{Float}
+use lib.ListN.{length, getD}
+use lib.Ieee.{Float, lt, ofBits, binary64}
 use lib.Ieee.Scale.{finite}
-use Rattle.errors.specs.Answer.{Answer, result, refusal, _>>=_}
-use Rattle.points.specs.Points.{negated}
+use Rattle.errors.specs.Answer.{Answer, result, _>>=_, watched, refusal}
+use Rattle.errors.specs.Numbers.{isPlus}
+use Rattle.points.specs.Points.{dotOf, negated}
 use Rattle.points.specs.declared.Vector2.{Vector2}
+use Rattle.inscribed.specs.Circles.{contactDir, center, reversedPoints}
+use Rattle.inscribed.specs.declared.Inscribed.{Inscribed}
+use Rattle.inscribed.specs.Lists.{frontAndBack, tmax, averageSpacing}
+use Rattle.points.specs.Numbers.{_*f_, f½}
+use Rattle.curve2.specs.Section.{wholeLength}
+use Rattle.cleaning.specs.Cleaning.{pointNumbers, curveOf}
+use Rattle.sections.specs.Places.{atClosest, lengthAlong}
+use Rattle.inscribed.specs.Store.{circleFrom, circlesOf, stored, badStore, badStoreCount}
 use Rattle.curve2.specs.Entry.{tested}
 use Rattle.sections.specs.Asked.{listedBool}
 use Rattle.sections.specs.declared.BoolAnswer.{BoolAnswer}
-use Rattle.inscribed.specs.Store.{circlesOf, stored, badStore, badStoreCount}
-use Rattle.inscribed.specs.declared.Inscribed.{Inscribed}
-use Rattle.centers.specs.Centers.{badCenters}
-use Rattle.checks.specs.Checks.{dirFwd, dirUpper}
-use Rattle.tmax.specs.Tmax.{tmaxFwd}
+use Rattle.geometry.specs.Camber.{badCenters}
 use Rattle.orient.specs.declared.OrientFwdAft.{OrientFwdAft}
 use Rattle.orient.specs.declared.OrientFwdAft.the-variants.{TmaxFwd, Airflow, Fwd}
 use Rattle.orient.specs.declared.OrientUpperLower.{OrientUpperLower}
 use Rattle.orient.specs.declared.OrientUpperLower.the-variants.{Upper, Lower}
+use Rattle.errors.specs.declared.Refusal.the-variants.{BadNumber, NoRoom, TooFewCircles}
+
+-- ---- `check_dir_fwd`: by a vector that points forward
+
+-- a centre's coordinates against a direction
+unfoldable pub centerDot : Vector2 → Inscribed → Answer Float
+centerDot dir c = dotOf dir (record { x = c .cx; y = c .cy })
+
+unfoldable pub lessForward : Vector2 → Inscribed → Inscribed → Answer Bool
+lessForward dir front back = centerDot dir front >>= λ a. centerDot dir back >>= λ b. result (lt a b)
+
+-- turned if the front lies less far forward than the back
+unfoldable pub dirFwd : Vector2 → List Inscribed → Answer Bool
+dirFwd dir cs = frontAndBack cs >>= λ ends. lessForward dir (ends .front) (ends .back)
+
+-- ---- `check_dir_upper`: by a vector that points to the upper side
+
+-- a circle votes for swapping where the product's sign bit is set
+unfoldable pub voteOf : Vector2 → Inscribed → Answer Bool
+voteOf dir c = dotOf dir (contactDir c) >>= λ d. result (not (isPlus d))
+
+unfoldable pub votesFrom : Vector2 → ℕ → List Inscribed → Answer ℕ
+unfolding voteOf
+votesFrom dir votes [] = result votes
+votesFrom dir votes (c ∷ cs) = voteOf dir c >>= λ flip. votesFrom dir (cond flip (suc votes) votes) cs
+
+-- swapped if more circles vote for it than don't
+unfoldable pub dirUpper : Vector2 → List Inscribed → Answer Bool
+dirUpper dir cs = votesFrom dir 0 cs >>= λ votes. result (ltb (length cs - votes) votes)
+
+-- ---- `check_tmax_fwd`: by the greatest radius
+
+-- 5e-2
+abbrev pub spacingPart : Float
+spacingPart = ofBits binary64 0x3fa9_9999_9999_999a
+
+-- the thickest circle
+unfoldable pub thickest : List Inscribed → Inscribed
+thickest cs = getD cs (tmax cs) (circleFrom [] 0)
+
+-- a length along a curve that isn't less than half of the whole; `ns` are the curve's numbers
+unfoldable pub behindHalf : List Float → Float → Answer Bool
+behindHalf ns along = watched (wholeLength ns) >>= λ whole. result (not (lt along (whole *f f½)))
+
+-- the place of c on the curve is that of the nearest station to its centre
+unfoldable pub inBackHalf : List Float → Inscribed → Answer Bool
+inBackHalf ns c =
+    atClosest ns (center c) >>= λ station.
+    lengthAlong ns (station .index) (station .fraction) >>= λ along.
+    behindHalf ns along
+
+-- on the camber curve of a tolerance: 5 where that leaves fewer than two points
+unfoldable pub onCurve : List Inscribed → Float → Answer Bool
+onCurve cs tol = curveOf tol false (map center cs) >>= λ curve. inBackHalf (pointNumbers curve) (thickest cs)
+
+-- the tolerance is a part of the average spacing
+unfoldable pub tmaxFwd : List Inscribed → Answer Bool
+tmaxFwd cs = averageSpacing cs >>= λ spacing. onCurve cs (spacing *f spacingPart)
+
+-- ---- the entry tests
 
 abbrev pub finiteVector : Vector2 → Bool
 finiteVector v = finite (v .x) && finite (v .y)
 
 -- 2, 4, then 7; `bad` is what fails by 2 beside the store
 unfoldable pub orientEntry : List Float → ℕ → Bool → Answer (Unit {0})
-orientEntry ns count bad = tested ((2, badStore ns count || bad) ∷ (4, badStoreCount ns count) ∷ (7, ltb count 2) ∷ [])
+orientEntry ns count bad = tested ((BadNumber, badStore ns count || bad) ∷ (NoRoom, badStoreCount ns count) ∷ (TooFewCircles, ltb count 2) ∷ [])
 
 -- ---- forward and aft
 
@@ -68,7 +134,14 @@ upperAsked how ns count = orientEntry ns count (not (finiteVector (vectorOf how)
 abbrev pub changedIf : (List Inscribed → List Inscribed) → Answer Bool → List Float → ℕ → List Float
 changedIf f (result true) ns count = stored (f (circlesOf ns count)) ns
 changedIf f (result false) ns count = ns
-changedIf f (refusal n) ns count = ns
+changedIf f (refusal r) ns count = ns
+
+-- forward and aft the order is turned, upper and lower the contacts are swapped
+abbrev pub fwdStore : OrientFwdAft → List Float → ℕ → List Float
+fwdStore how ns count = changedIf reverse (fwdAsked how ns count) ns count
+
+abbrev pub upperStore : OrientUpperLower → List Float → ℕ → List Float
+upperStore how ns count = changedIf (map reversedPoints) (upperAsked how ns count) ns count
 
 -- Both together: the answer r of a call, and the store before and after it.
 pub record Oriented (f : List Inscribed → List Inscribed) (answer : Answer Bool) (old : List Float) (count : ℕ) (new : List Float) (r : BoolAnswer) : Type 0 where

@@ -1,6 +1,10 @@
 // Orientation of the circles in a store: which end is the leading edge, and which contacts are on the upper side.
+mod checks;
+mod tmax;
+
 use curve2::Entry;
 use errors::Refusal;
+use geometry::centers;
 use points::Vector2;
 use sections::BoolAnswer;
 ghost use mathlib.Core.Path.{_≡_};
@@ -10,7 +14,7 @@ ghost use lib.ListN.{length};
 ghost use Rattle.points.specs.Points.{negated};
 ghost use Rattle.curve2.specs.Entry.{listedEntry};
 ghost use Rattle.inscribed.specs.Circles.{reversedPoints};
-ghost use Rattle.inscribed.specs.Store.{circlesOf};
+ghost use Rattle.inscribed.specs.Store.{width, mostSlots, circlesOf};
 ghost use Rattle.sections.specs.Asked.{listedBool};
 ghost use Rattle.orient.specs.Orientation.{finiteVector, orientEntry, badFwd, turnOf, fwdAsked, vectorOf, upperDir, upperAsked, Oriented};
 
@@ -79,7 +83,7 @@ fn is_bad_fwd(how: OrientFwdAft, store: &[f64], count: usize) -> bool
 
 // Whether the order of the circles has to be turned.
 fn turn_of(how: OrientFwdAft, store: &[f64], count: usize) -> BoolAnswer
-    requires { ⌜ (count * 7 ≤ length (now store)) × (1 ≤ count) × (count ≤ 1024) ⌝ }
+    requires { ⌜ (count * width ≤ length (now store)) × (1 ≤ count) × (count ≤ mostSlots) ⌝ }
     ensures { λ r. ⌜ listedBool r ≡ turnOf how (circlesOf (now (store .entry)) count) ⌝ }
 {
     match how {
@@ -143,7 +147,7 @@ impl OrientFwdAft {
         match check_fwd(self, store, count) {
             BoolAnswer::Value(turn) => {
                 if turn {
-                    turning::reverse_order_only(store, count);
+                    inscribed::checked::reverse_order_only(store, count);
                     return BoolAnswer::Value(true);
                 }
                 BoolAnswer::Value(false)
@@ -161,7 +165,7 @@ impl OrientUpperLower {
         match check_upper(self, store, count) {
             BoolAnswer::Value(swap) => {
                 if swap {
-                    turning::reverse_points(store, count);
+                    inscribed::checked::reverse_points(store, count);
                     return BoolAnswer::Value(true);
                 }
                 BoolAnswer::Value(false)

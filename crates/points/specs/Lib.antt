@@ -1,4 +1,4 @@
--- binary64 arithmetic in short, and points and vectors: what each step gives, bit for bit.
+-- binary64 arithmetic in short, points and vectors, and the nearest point of an edge: what each step gives, bit for bit.
 pub mod Numbers
 pub mod Points
-pub mod Listed
+pub mod Closest

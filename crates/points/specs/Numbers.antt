@@ -30,5 +30,5 @@ abbrev pub tiny : Float
 tiny = ofBits binary64 0x3d71_9799_812d_ea11
 
 -- x is below the bound in size
-abbrev pub within : Float → Float → Bool
-within bound x = lt (neg bound) x && lt x bound
+abbrev pub isWithin : Float → Float → Bool
+isWithin bound x = lt (neg bound) x && lt x bound

@@ -5,18 +5,21 @@ use mathlib.Core.Bool.{_&&_, cond}
 use lib.Ieee.{Float, neg, eq}
 use lib.Ieee.Scale.{finite}
 use Rattle.errors.specs.Answer.{Answer, result, refusal, watched, _>>=_}
-use Rattle.root.specs.Asked.{rootOf}
+use Rattle.root.specs.Sqrt.{rootOf}
 use Rattle.points.specs.Numbers.{_+f_, _-f_, _*f_, _/f_, f0, f½}
 use Rattle.points.specs.declared.Point2.{Point2}
 use Rattle.points.specs.declared.Vector2.{Vector2}
+use Rattle.points.specs.declared.PointAnswer.{PointAnswer}
+use Rattle.points.specs.declared.VectorAnswer.{VectorAnswer}
 use Rattle.points.specs.declared.AngleDir.{AngleDir}
 use Rattle.points.specs.declared.AngleDir.the-variants.{Cw, Ccw}
+use Rattle.errors.specs.declared.Refusal.the-variants.{NotFinite, ZeroLength}
 
 abbrev pub watchedPoint : Point2 → Answer Point2
-watchedPoint p = cond (finite (p .x) && finite (p .y)) (result p) (refusal 12)
+watchedPoint p = cond (finite (p .x) && finite (p .y)) (result p) (refusal NotFinite)
 
 abbrev pub watchedVector : Vector2 → Answer Vector2
-watchedVector v = cond (finite (v .x) && finite (v .y)) (result v) (refusal 12)
+watchedVector v = cond (finite (v .x) && finite (v .y)) (result v) (refusal NotFinite)
 
 -- ---- plain sums
 
@@ -34,8 +37,8 @@ plus a b = record { x = a .x +f b .x; y = a .y +f b .y }
 abbrev pub negated : Vector2 → Vector2
 negated v = record { x = neg (v .x); y = neg (v .y) }
 
-abbrev pub over : Vector2 → Float → Vector2
-over v l = record { x = v .x /f l; y = v .y /f l }
+abbrev pub dividedBy : Vector2 → Float → Vector2
+dividedBy v l = record { x = v .x /f l; y = v .y /f l }
 
 -- ---- leaf rule "Quarter turn": clockwise (x, y) to (y, -x), the other way (-y, x)
 
@@ -66,4 +69,14 @@ midPointOf a b = watchedPoint (moved b (minus a b) f½)
 
 -- "normalising divides by the length"; 11: "a vector to be normalised has length zero"
 unfoldable pub normalized : Vector2 → Answer Vector2
-normalized v = normOf v >>= λ l. cond (eq l f0) (refusal 11) (watchedVector (over v l))
+normalized v = normOf v >>= λ l. cond (eq l f0) (refusal ZeroLength) (watchedVector (dividedBy v l))
+
+-- ---- what the answers list: the result, or the refusal
+
+abbrev pub listedPoint : PointAnswer → Answer Point2
+listedPoint (PointAnswer.Value p) = result p
+listedPoint (PointAnswer.Refused r) = refusal r
+
+abbrev pub listedVector : VectorAnswer → Answer Vector2
+listedVector (VectorAnswer.Value v) = result v
+listedVector (VectorAnswer.Refused r) = refusal r

@@ -1,11 +1,12 @@
 // Points and vectors by value, and the steps on them.
+pub mod segment2;
+
 use errors::Refusal;
 use errors::ScalarAnswer;
 ghost use mathlib.Core.Path.{_≡_};
-ghost use Rattle.errors.specs.Refusals.{listedScalar};
-ghost use Rattle.points.specs.Numbers.{within};
-ghost use Rattle.points.specs.Points.{watchedPoint, watchedVector, rotated, difference, dotOf, normOf, distOf, midPointOf, normalized};
-ghost use Rattle.points.specs.Listed.{listedPoint, listedVector};
+ghost use Rattle.errors.specs.Answer.{listedScalar};
+ghost use Rattle.points.specs.Numbers.{isWithin};
+ghost use Rattle.points.specs.Points.{watchedPoint, watchedVector, rotated, difference, dotOf, normOf, distOf, midPointOf, normalized, listedPoint, listedVector};
 
 pub struct Point2 {
     pub x: f64,
@@ -37,7 +38,7 @@ pub enum VectorAnswer {
 
 // Whether x is below the bound in size.
 pub fn is_within(bound: f64, x: f64) -> bool
-    ensures { λ r. ⌜ r ≡ within bound x ⌝ }
+    ensures { λ r. ⌜ r ≡ isWithin bound x ⌝ }
 {
     if -bound < x { x < bound } else { false }
 }
@@ -58,7 +59,7 @@ pub fn watch_point(p: Point2) -> PointAnswer
 }
 
 // A direction that was worked out: 12 where a part of it isn't finite.
-pub fn watch_vector(v: Vector2) -> VectorAnswer
+pub(crate) fn watch_vector(v: Vector2) -> VectorAnswer
     ensures { λ r. ⌜ listedVector r ≡ watchedVector v ⌝ }
 {
     let x = v.x;

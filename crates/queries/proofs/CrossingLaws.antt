@@ -10,11 +10,10 @@ use lib.ListN.{length}
 use lib.Ieee.{Float, lt}
 use Rattle.errors.specs.Answer.{Answer, result, refusal, _>>=_}
 use Rattle.line2.specs.declared.Line2.{Line2}
-use Rattle.hits.specs.Edges.{Edge, sectionEdges}
-use Rattle.hits.specs.Hits.{Hit, hit, edgeHit, joinedTo, hitsFrom, inserted, sortedInto, sorted, nearbyOnEdge, droppedAfter, dropped}
-use Rattle.hits.specs.Seen.{seenOf, seenHits}
+use Rattle.queries.specs.Hits.{Edge, sectionEdges, Hit, hit, edgeHit, joinedTo, hitsFrom, inserted, sortedInto, sorted, nearbyOnEdge, droppedAfter, dropped}
+use Rattle.queries.specs.Code.{seenOf, seenHits}
 use Rattle.queries.specs.Crossing.{Span, spanOf, crossed, crossingWith, crossingOf}
-use Rattle.hits.specs.declared.Seen.{Seen}
+use Rattle.queries.specs.declared.hits.Seen.{Seen}
 
 -- ---- edges of hits: below k, from k on and rising, and none twice
 

@@ -1,3 +1,4 @@
 -- Laws that belong to no one function.
 pub mod CrossingLaws
 pub mod OrderLaws
+pub mod ClosestLaws

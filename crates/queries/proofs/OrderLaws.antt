@@ -9,7 +9,7 @@ use native.Mathlib.Omega.{arith}
 use borrow.Author.Tests.{ltb-true, lt-ltb, le-ltb}
 use lib.Ieee.{Float, nan, inf, fin, below, down, lt, up}
 use lib.Ieee.Fits.{down-pos}
-use Rattle.hits.specs.Hits.{Hit, inserted, sortedInto, sorted, droppedAfter, dropped}
+use Rattle.queries.specs.Hits.{Hit, inserted, sortedInto, sorted, droppedAfter, dropped}
 use Rattle.queries.specs.Crossing.{Span, spanOf}
 
 -- ---- "below" among numbers: transitive, and no number is below itself

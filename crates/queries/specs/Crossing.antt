@@ -4,12 +4,12 @@ use mathlib.Core.List.{List, [], _∷_}
 use mathlib.Core.Option.{Option, some, none}
 use lib.Ieee.{Float}
 use Rattle.errors.specs.Answer.{Answer, result, refusal, _>>=_}
-use Rattle.errors.specs.Refusals.{numberOf}
 use Rattle.line2.specs.Lines.{lineThrough, atParam}
 use Rattle.line2.specs.declared.Line2.{Line2}
-use Rattle.hits.specs.Hits.{Hit, hitsOf, sorted, dropped, nearby, nearbyOnEdge}
+use Rattle.queries.specs.Hits.{Hit, hitsOf, sorted, dropped, nearby, nearbyOnEdge}
 use Rattle.queries.specs.declared.Crossing.{Crossing}
 use Rattle.queries.specs.declared.CrossingAnswer.{CrossingAnswer}
+use Rattle.errors.specs.declared.Refusal.the-variants.{NoCrossing}
 
 -- the fractions of the two hits
 pub record Span : Type 0 where
@@ -45,10 +45,10 @@ joinedCrossingOf ns l = crossingWith nearby ns l
 
 -- 8: "a line asked for directly, or a start line, has not exactly two hits"
 abbrev pub orNoCrossing : Option Crossing → Answer Crossing
-orNoCrossing none = refusal 8
+orNoCrossing none = refusal NoCrossing
 orNoCrossing (some c) = result c
 
 abbrev pub listedCrossing : CrossingAnswer → Answer (Option Crossing)
 listedCrossing (CrossingAnswer.Value c) = result (some c)
 listedCrossing CrossingAnswer.Missed = result none
-listedCrossing (CrossingAnswer.Refused r) = refusal (numberOf r)
+listedCrossing (CrossingAnswer.Refused r) = refusal r

@@ -7,19 +7,19 @@ use borrow.Author.Tests.{le-leb, lt-leb}
 use lib.ListN.{length}
 use lib.Ieee.{Float}
 use Rattle.errors.specs.Answer.{refusal}
-use Rattle.runs.specs.Run.{Move, ended, Out, under}
+use Rattle.runs.specs.Run.{Move, ended, Final, underLimit}
 use Rattle.runs.proofs.RunLaws.{whole-ends, whole-goes}
 use Rattle.inscribed.specs.Store.{circlesOf}
-use Rattle.inscribed.specs.Parts.{withCircle}
+use Rattle.inscribed.specs.Code.{withCircle}
 use Rattle.inscribed.specs.declared.Inscribed.{Inscribed}
 use Rattle.inscribed.proofs.StoreLaws.{stored-push}
-use Rattle.moves.specs.Machine.{State, refining, End, finished, refineMove, measure}
-use Rattle.moves.specs.Report.{reported}
-use Rattle.waiting.specs.Waiting.{refineStep, refineRun}
-use Rattle.waiting.proofs.MoveLaws.{refine-falls}
-use Rattle.waiting.proofs.RefineLaws.{Left, report, reported-as, loop-start, loop-finished}
+use Rattle.refine.specs.Machine.{State, refining, End, finished, refineMove, measure, refineStep, refineRun}
+use Rattle.refine.specs.Report.{reported}
+use Rattle.refine.proofs.MoveLaws.{refine-falls}
+use Rattle.refine.proofs.RefineLaws.{Left, report, reported-as, loop-start, loop-finished}
+use Rattle.errors.specs.declared.Refusal.the-variants.{StoreFull}
 
-module _ (ns : List Float) (tol : Float) (slots limit : ℕ) (old : List Float) (target : Out State End) where
+module _ (ns : List Float) (tol : Float) (slots limit : ℕ) (old : List Float) (target : Final State End) where
   abbrev step : State → Move State End
   step = refineStep ns tol slots
 
@@ -28,12 +28,12 @@ module _ (ns : List Float) (tol : Float) (slots limit : ℕ) (old : List Float) 
     empty-list [] e = refl
     empty-list (c ∷ cs) e = absurd (omega arith)
 
-    pub loop-no-slot : Left ns tol slots limit old target store 0 (b ∷ ws) u → slots ≡ 0 → report (ended (refusal 15)) 0 u store ≡ reported old target
+    pub loop-no-slot : Left ns tol slots limit old target store 0 (b ∷ ws) u → slots ≡ 0 → report (ended (refusal StoreFull)) 0 u store ≡ reported old target
     unfolding refineStep refineMove
     loop-no-slot l z =
         let e = empty-list (l .cs) (l .long) in
-        reported-as ns tol slots limit old target store 0 [] (ended (refusal 15)) (refining [] (b ∷ ws)) u refl (rw e at (l .holds)) refl
-        (sym (whole-ends step (measure slots) (refine-falls ns tol slots) (under limit) (refining [] (b ∷ ws)) u (refusal 15) (rw (le-leb slots 0 (omega arith)))) ∙ (rw e at (l .left)))
+        reported-as ns tol slots limit old target store 0 [] (ended (refusal StoreFull)) (refining [] (b ∷ ws)) u refl (rw e at (l .holds)) refl
+        (sym (whole-ends step (measure slots) (refine-falls ns tol slots) (underLimit limit) (refining [] (b ∷ ws)) u (refusal StoreFull) (rw (le-leb slots 0 (omega arith)))) ∙ (rw e at (l .left)))
 
     pub loop-first : Left ns tol slots limit old target store 0 (b ∷ ws) u → (slots ≡ 0 → ⊥) → Left ns tol slots limit old target (withCircle store 0 b) 1 ws u
     unfolding refineStep refineMove
@@ -43,16 +43,16 @@ module _ (ns : List Float) (tol : Float) (slots limit : ℕ) (old : List Float) 
           cs = b ∷ [];
           long = refl;
           holds = rw (rw e at (l .holds)) (stored-push [] old b);
-          left = sym (whole-goes step (measure slots) (refine-falls ns tol slots) (under limit) (refining [] (b ∷ ws)) u (refining (b ∷ []) ws) (rw (lt-leb slots 0 (omega arith)))) ∙ (rw e at (l .left));
+          left = sym (whole-goes step (measure slots) (refine-falls ns tol slots) (underLimit limit) (refining [] (b ∷ ws)) u (refining (b ∷ []) ws) (rw (lt-leb slots 0 (omega arith)))) ∙ (rw e at (l .left));
         }
 
 -- an empty store
 module _ (ns : List Float) (tol : Float) (slots limit : ℕ) (old : List Float) (b : Inscribed) (u : ℕ) (room : slots * 7 ≤ length old) where
-  begun : Left ns tol slots limit old (refineRun ns tol slots (under limit) (circlesOf old 0) (b ∷ []) u) old 0 (b ∷ []) u
+  begun : Left ns tol slots limit old (refineRun ns tol slots (underLimit limit) (circlesOf old 0) (b ∷ []) u) old 0 (b ∷ []) u
   begun = loop-start ns tol slots limit old 0 (b ∷ []) u (omega arith) room
 
-  pub empty-refused : slots ≡ 0 → report (ended (refusal 15)) 0 u old ≡ reported old (refineRun ns tol slots (under limit) (circlesOf old 0) (b ∷ []) u)
+  pub empty-refused : slots ≡ 0 → report (ended (refusal StoreFull)) 0 u old ≡ reported old (refineRun ns tol slots (underLimit limit) (circlesOf old 0) (b ∷ []) u)
   empty-refused z = loop-no-slot ns tol slots limit old _ old b [] u begun z
 
-  pub empty-accepted : (slots ≡ 0 → ⊥) → report (ended finished) 1 u (withCircle old 0 b) ≡ reported old (refineRun ns tol slots (under limit) (circlesOf old 0) (b ∷ []) u)
+  pub empty-accepted : (slots ≡ 0 → ⊥) → report (ended finished) 1 u (withCircle old 0 b) ≡ reported old (refineRun ns tol slots (underLimit limit) (circlesOf old 0) (b ∷ []) u)
   empty-accepted z = loop-finished ns tol slots limit old _ (withCircle old 0 b) 1 u (loop-first ns tol slots limit old _ old b [] u begun z)

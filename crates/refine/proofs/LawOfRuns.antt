@@ -8,19 +8,18 @@ use native.Mathlib.Omega.{arith}
 use lib.ListN.{length, take, drop, length-append, length-drop, take-append-drop}
 use lib.Seq.{take-at, drop-at, drop-append-le}
 use lib.Ieee.{Float}
-use Rattle.runs.specs.Run.{Move, goes, pays, Out, under, never, whole}
-use Rattle.runs.proofs.LimitLaws.{Grows, part-grows, run-holds, spent-if, if-spent, not-spent, units-min, not-spent-later, part-later}
+use Rattle.errors.specs.Answer.{Answer, result, refusal}
+use Rattle.errors.proofs.Laws.{not-0, not-14}
+use Rattle.runs.specs.Run.{Move, goes, pays, Ending, ended, spent, unfinished, Final, underLimit, never, whole}
+use Rattle.runs.proofs.RunLaws.{Falls}
+use Rattle.runs.proofs.LimitLaws.{Grows, part-grows, run-holds, spent-if, if-spent, not-spent, units-min, not-spent-later, part-later, finishes}
 use Rattle.inscribed.specs.Store.{circlesOf, allNumbers, stored}
 use Rattle.inscribed.specs.declared.Inscribed.{Inscribed}
 use Rattle.inscribed.proofs.StoreLaws.{length-all, numbers-append, length-circles, numbers-of-circles}
-use Rattle.moves.specs.Machine.{State, circlesIn, End}
-use Rattle.moves.specs.Report.{Report, reported, refusedOnEntry}
-use Rattle.refine.specs.Law.{Settled, LimitLaw}
+use Rattle.refine.specs.Machine.{State, circlesIn, End}
+use Rattle.refine.specs.Report.{Called, ran, endingNumber, calledNumber, storeOf, unitsOf, countOf, Ends, reported}
+use Rattle.refine.specs.Law.{oldLast, Settled, LimitLaw}
 use Rattle.refine.proofs.MachineLaws.{Part, Sound}
-
--- the old last circle, if there is one
-abbrev pub oldLast : List Float → ℕ → List Inscribed
-oldLast old count = drop (count - 1) (circlesOf old count)
 
 pub short-settled : (ns : List Float) (tol : Float) (cs : List Inscribed) → length cs ≤ 1 → Settled ns tol cs
 short-settled ns tol [] h = tt
@@ -30,18 +29,35 @@ short-settled ns tol (a ∷ (b ∷ cs)) h = absurd (omega arith)
 pub short-last : (old : List Float) (count : ℕ) → length (oldLast old count) ≤ 1
 short-last old count = omega (arith, length-drop (count - 1) (circlesOf old count), length-circles old 0 count)
 
--- ---- refused on entry: nothing happens, whatever the limit
+-- ---- what the number of an ending tells
 
-pub entry-law : (ns : List Float) (tol : Float) (old : List Float) (count n limit : ℕ)
-    → LimitLaw ns tol old (oldLast old count) count (λ l. refusedOnEntry old count n) (refusedOnEntry old count n) (λ l. []) limit
+module _ {A : Type 0} where
+  pub spent-number : (e : Ending (Answer A)) → endingNumber e ≡ 14 → (e ≡ unfinished → ⊥) → e ≡ spent
+  spent-number (ended (result a)) p u = absurd (omega (arith, p))
+  spent-number (ended (refusal r)) p u = absurd (not-14 r p)
+  spent-number spent p u = refl
+  spent-number unfinished p u = absurd (u refl)
+
+  pub result-number : (e : Ending (Answer A)) → endingNumber e ≡ 0 → (a : A) × (e ≡ ended (result a))
+  result-number (ended (result a)) p = (a, refl)
+  result-number (ended (refusal r)) p = absurd (not-0 r p)
+  result-number spent p = absurd (omega (arith, p))
+  result-number unfinished p = absurd (omega (arith, p))
+
+-- ---- refused on entry, or at the start: nothing happens, whatever the limit
+
+pub still-law : (ns : List Float) (tol : Float) (old : List Float) (count : ℕ) (c : Called (Unit {0})) → Ends c → storeOf c ≡ old → countOf count c ≡ count → unitsOf c ≡ 0 → (calledNumber c ≡ 14 → ⊥)
+    → (limit : ℕ) → LimitLaw ns tol old count (λ l. c) c (λ l. []) limit
 unfolding allNumbers
-entry-law ns tol old count n limit = record {
-  store = rw (add-zero count, append-nil (take (7 * count) old)) (sym (take-append-drop (7 * count) old));
-  counted = sym (add-zero count);
+still-law ns tol old count c ends same counted none other limit = record {
+  plain-ends = ends;
+  ends = ends;
+  store = rw (same, add-zero count, append-nil (take (7 * count) old)) (sym (take-append-drop (7 * count) old));
+  counted = rw counted (sym (add-zero count));
   settled = rw (append-nil (oldLast old count)) (short-settled ns tol (oldLast old count) (short-last old count));
-  spent-if = λ h. absurd (omega arith);
-  if-spent = λ e. let z : _≡_ {A = ℕ} 0 1 = cc in absurd (omega arith);
-  units = omega arith;
+  spent-if = λ h. absurd (omega (arith, h, none));
+  if-spent = λ e. absurd (other e);
+  units = omega (arith, none);
   otherwise = λ m. refl;
   larger = λ more h m. refl;
   first = λ more h. refl;
@@ -50,7 +66,7 @@ entry-law ns tol old count n limit = record {
 
 -- ---- a run
 
-module _ (step : State → Move State End) (measure : State → ℕ) (grows : Grows step Part) (ns : List Float) (tol : Float) (old : List Float) (count : ℕ) (start : State)
+module _ (step : State → Move State End) (measure : State → ℕ) (falls : Falls step measure) (grows : Grows step Part) (ns : List Float) (tol : Float) (old : List Float) (count : ℕ) (start : State)
     (begins : circlesIn start ≡ circlesOf old count) (room : 7 * count ≤ length old) (start-sound : Sound ns tol count start)
     (sound-goes : (s t : State) → step s ≡ goes t → Sound ns tol count s → Sound ns tol count t) (sound-pays : (s t : State) → step s ≡ pays t → Sound ns tol count s → Sound ns tol count t) where
   abbrev pub circlesUnder : (ℕ → Bool) → List Inscribed
@@ -92,23 +108,28 @@ module _ (step : State → Move State End) (measure : State → ℕ) (grows : Gr
       rw (numbers-append cs more, append-assoc (allNumbers cs) (allNumbers more) (drop (7 * length (cs ++ more)) old))
       (take-at (allNumbers cs) (allNumbers more ++ drop (7 * length (cs ++ more)) old) (7 * length cs) (length-all cs))
 
-  abbrev pub at : ℕ → Report
-  at limit = reported old (whole step measure (under limit) start 0)
+  abbrev pub at : ℕ → Called (Unit {0})
+  at limit = ran (reported old (whole step measure (underLimit limit) start 0))
 
-  pub run-law : (limit : ℕ) → LimitLaw ns tol old (oldLast old count) count at (reported old (whole step measure never start 0)) (λ l. drop count (circlesUnder (under l))) limit
+  run-ends : (full : ℕ → Bool) → whole step measure full start 0 .ending ≡ unfinished → ⊥
+  run-ends full = finishes step measure falls full start 0
+
+  pub run-law : (limit : ℕ) → LimitLaw ns tol old count at (ran (reported old (whole step measure never start 0))) (λ l. drop count (circlesUnder (underLimit l))) limit
   unfolding reported
   run-law limit = record {
-    store = whole-store (under limit);
-    counted = whole-count (under limit);
-    settled = whole-settled (under limit);
-    spent-if = spent-if step measure start Part grows limit;
-    if-spent = if-spent step measure start Part grows limit;
+    plain-ends = run-ends never;
+    ends = run-ends (underLimit limit);
+    store = whole-store (underLimit limit);
+    counted = whole-count (underLimit limit);
+    settled = whole-settled (underLimit limit);
+    spent-if = λ h. ap endingNumber (spent-if step measure start Part grows limit h);
+    if-spent = λ e. if-spent step measure start Part grows limit (spent-number _ e (run-ends (underLimit limit)));
     units = units-min step measure start Part grows limit;
-    otherwise = λ m. ap (λ (o : Out State End). reported old o) (not-spent step measure start Part grows limit m);
-    larger = λ more h m. ap (λ (o : Out State End). reported old o) (not-spent-later step measure start Part grows limit more h m);
+    otherwise = λ m. ap (λ (o : Final State End). ran (reported old o)) (not-spent step measure start Part grows limit (λ e. m (ap endingNumber e)));
+    larger = λ more h m. ap (λ (o : Final State End). ran (reported old o)) (not-spent-later step measure start Part grows limit more h (λ e. m (ap endingNumber e)));
     first = λ more h.
         let p = part-later step measure start Part grows limit more h in
-        let cs = circlesUnder (under limit) in
+        let cs = circlesUnder (underLimit limit) in
         rw (p .1) (first-numbers cs (p .0)) ∙ sym (ap (λ (x : List Inscribed). take (7 * length cs) (stored x old)) (sym (append-nil cs)) ∙ first-numbers cs []);
-    fewer = λ more h. let p = part-later step measure start Part grows limit more h in omega (arith, ap length (p .1), length-append (circlesUnder (under limit)) (p .0));
+    fewer = λ more h. let p = part-later step measure start Part grows limit more h in omega (arith, ap length (p .1), length-append (circlesUnder (underLimit limit)) (p .0));
   }

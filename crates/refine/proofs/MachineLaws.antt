@@ -15,12 +15,12 @@ use Rattle.errors.specs.Answer.{Answer, result, refusal}
 use Rattle.errors.specs.Lists.{lastOf}
 use Rattle.runs.specs.Run.{goes, pays}
 use Rattle.runs.proofs.LimitLaws.{Grows}
-use Rattle.trial.specs.Trial.{trial}
+use Rattle.circles.specs.Trial.{trial}
 use Rattle.inscribed.specs.declared.Inscribed.{Inscribed}
-use Rattle.moves.specs.Machine.{State, refining, advancing, over, circlesIn, withRoom, afterRoom, afterTrial, refineMove}
-use Rattle.waiting.specs.Waiting.{refineStep}
-use Rattle.waiting.proofs.MoveLaws.{no-goes, no-pays, move-goes, move-pays}
+use Rattle.refine.specs.Machine.{State, refining, advancing, stopped, circlesIn, withRoom, afterRoom, afterTrial, refineMove, refineStep}
+use Rattle.refine.proofs.MoveLaws.{no-goes, no-pays, move-goes, move-pays}
 use Rattle.refine.specs.Law.{Settled}
+use Rattle.errors.specs.declared.Refusal.the-variants.{StackFull, StoreFull}
 
 -- ---- the list grows at its end
 
@@ -42,12 +42,12 @@ unfolding afterTrial withRoom
 after-part slots cs b ws (refusal n) = ([], no-more cs)
 after-part slots cs b ws (result (some d)) = go (leb 64 (suc (length ws)))
   where
-    go : (x : Bool) → Part (refining cs (b ∷ ws)) (afterRoom cs b ws (cond x (refusal 16) (result (some d))))
+    go : (x : Bool) → Part (refining cs (b ∷ ws)) (afterRoom cs b ws (cond x (refusal StackFull) (result (some d))))
     go true = ([], no-more cs)
     go false = ([], no-more cs)
 after-part slots cs b ws (result none) = go (leb slots (length cs))
   where
-    go : (x : Bool) → Part (refining cs (b ∷ ws)) (afterRoom cs b ws (cond x (refusal 15) (result none)))
+    go : (x : Bool) → Part (refining cs (b ∷ ws)) (afterRoom cs b ws (cond x (refusal StoreFull) (result none)))
     go true = ([], no-more cs)
     go false = (b ∷ [], refl)
 
@@ -63,14 +63,14 @@ unfolding refineStep
 refine-goes ns tol slots (refining cs []) t p = no-goes p
 refine-goes ns tol slots (refining cs (b ∷ ws)) t p = move-part ns tol slots cs b ws t .0 p
 refine-goes ns tol slots (advancing cs k) t p = no-goes p
-refine-goes ns tol slots (over cs n) t p = no-goes p
+refine-goes ns tol slots (stopped cs n) t p = no-goes p
 
 refine-pays : (ns : List Float) (tol : Float) (slots : ℕ) (s t : State) → refineStep ns tol slots s ≡ pays t → Part s t
 unfolding refineStep
 refine-pays ns tol slots (refining cs []) t p = no-pays p
 refine-pays ns tol slots (refining cs (b ∷ ws)) t p = move-part ns tol slots cs b ws t .1 p
 refine-pays ns tol slots (advancing cs k) t p = no-pays p
-refine-pays ns tol slots (over cs n) t p = no-pays p
+refine-pays ns tol slots (stopped cs n) t p = no-pays p
 
 pub refine-grows : (ns : List Float) (tol : Float) (slots : ℕ) → Grows (refineStep ns tol slots) Part
 refine-grows ns tol slots = record { same = part-same; chain = part-chain; goes-on = refine-goes ns tol slots; pays-on = refine-pays ns tol slots }
@@ -108,12 +108,12 @@ module _ (ns : List Float) (tol : Float) (k slots : ℕ) where
   after-sound c cs b ws (refusal n) e h = record { held = h .held; settled = h .settled }
   after-sound c cs b ws (result (some d)) e h = go (leb 64 (suc (length ws)))
     where
-      go : (x : Bool) → Sound ns tol k (afterRoom (c ∷ cs) b ws (cond x (refusal 16) (result (some d))))
+      go : (x : Bool) → Sound ns tol k (afterRoom (c ∷ cs) b ws (cond x (refusal StackFull) (result (some d))))
       go true = record { held = h .held; settled = h .settled }
       go false = record { held = h .held; settled = h .settled }
   after-sound c cs b ws (result none) e h = go (leb slots (suc (length cs)))
     where
-      go : (x : Bool) → Sound ns tol k (afterRoom (c ∷ cs) b ws (cond x (refusal 15) (result none)))
+      go : (x : Bool) → Sound ns tol k (afterRoom (c ∷ cs) b ws (cond x (refusal StoreFull) (result none)))
       go true = record { held = h .held; settled = h .settled }
       go false = record { held = omega (arith, h .held, length-append (c ∷ cs) (b ∷ [])); settled = settled-accepted ns tol (k - 1) c cs b (omega (arith, h .held)) (h .settled) e }
 
@@ -135,14 +135,14 @@ module _ (ns : List Float) (tol : Float) (k slots : ℕ) where
   refine-sound-goes (refining cs []) t p h = no-goes p
   refine-sound-goes (refining cs (b ∷ ws)) t p h = move-sound cs b ws t h .0 p
   refine-sound-goes (advancing cs j) t p h = no-goes p
-  refine-sound-goes (over cs n) t p h = no-goes p
+  refine-sound-goes (stopped cs n) t p h = no-goes p
 
   pub refine-sound-pays : (s t : State) → refineStep ns tol slots s ≡ pays t → Sound ns tol k s → Sound ns tol k t
   unfolding refineStep
   refine-sound-pays (refining cs []) t p h = no-pays p
   refine-sound-pays (refining cs (b ∷ ws)) t p h = move-sound cs b ws t h .1 p
   refine-sound-pays (advancing cs j) t p h = no-pays p
-  refine-sound-pays (over cs n) t p h = no-pays p
+  refine-sound-pays (stopped cs n) t p h = no-pays p
 
 -- ---- the offered circle waits below the others, or is last
 
@@ -152,7 +152,7 @@ Ends o cs = (before : List Inscribed) × (cs ≡ before ++ (o ∷ []))
 abbrev pub Offered : ℕ → Inscribed → State → Type 0
 Offered k o (refining cs ws) = Ends o ws ⊎ ((ws ≡ []) × (before : List Inscribed) × (cs ≡ before ++ (o ∷ [])) × (k ≤ length before))
 Offered k o (advancing cs j) = ⊥
-Offered k o (over cs n) = Unit {0}
+Offered k o (stopped cs n) = Unit {0}
 
 nothing-ends : {A : Type 0} (b o : Inscribed) (ws before : List Inscribed) → b ∷ ws ≡ [] → A
 nothing-ends b o ws before e = let z : _≡_ {A = ℕ} 0 1 = cc in absurd (omega arith)
@@ -176,13 +176,13 @@ module _ (ns : List Float) (tol : Float) (k slots : ℕ) (o : Inscribed) where
   after-offered c cs b ws (refusal n) h e = tt
   after-offered c cs b ws (result (some d)) h e = go (leb 64 (suc (length ws))) e
     where
-      go : (x : Bool) → Offered k o (refining (c ∷ cs) (b ∷ ws)) → Offered k o (afterRoom (c ∷ cs) b ws (cond x (refusal 16) (result (some d))))
+      go : (x : Bool) → Offered k o (refining (c ∷ cs) (b ∷ ws)) → Offered k o (afterRoom (c ∷ cs) b ws (cond x (refusal StackFull) (result (some d))))
       go true q = tt
       go false (inl q) = inl (d ∷ q .0, ap (λ (x : List Inscribed). d ∷ x) (q .1))
       go false (inr q) = nothing-ends b o ws [] (q .0)
   after-offered c cs b ws (result none) h e = go (leb slots (suc (length cs)))
     where
-      go : (x : Bool) → Offered k o (afterRoom (c ∷ cs) b ws (cond x (refusal 15) (result none)))
+      go : (x : Bool) → Offered k o (afterRoom (c ∷ cs) b ws (cond x (refusal StoreFull) (result none)))
       go true = tt
       go false = accepted-offered (c ∷ cs) b ws h e
 
@@ -197,7 +197,7 @@ module _ (ns : List Float) (tol : Float) (k slots : ℕ) (o : Inscribed) where
       let m = move-goes ns tol slots b ws cs t p in
       rw (m .2) (omega (arith, rw (m .0) at (h .0)), accepted-offered [] b ws (rw (m .0) at (h .0)) (rw (m .0) at (h .1)))
   refine-offered-goes (advancing cs j) t p h = no-goes p
-  refine-offered-goes (over cs n) t p h = no-goes p
+  refine-offered-goes (stopped cs n) t p h = no-goes p
 
   pub refine-offered-pays : (s t : State) → refineStep ns tol slots s ≡ pays t → Kept s → Kept t
   unfolding refineStep
@@ -211,7 +211,7 @@ module _ (ns : List Float) (tol : Float) (k slots : ℕ) (o : Inscribed) where
           let q = after-part slots cs b ws (trial ns tol (lastOf c ds) b) in
           rw f (omega (arith, ap length (q .1), length-append cs (q .0), h .0), rw e (after-offered c ds b ws (trial ns tol (lastOf c ds) b) (rw e at (h .0)) (rw e at (h .1))))
   refine-offered-pays (advancing cs j) t p h = no-pays p
-  refine-offered-pays (over cs n) t p h = no-pays p
+  refine-offered-pays (stopped cs n) t p h = no-pays p
 
 -- ---- no more circles than slots
 
@@ -224,12 +224,12 @@ module _ (ns : List Float) (tol : Float) (slots : ℕ) where
   after-fits cs b ws (refusal n) h = h
   after-fits cs b ws (result (some d)) h = go (leb 64 (suc (length ws)))
     where
-      go : (x : Bool) → Fits (afterRoom cs b ws (cond x (refusal 16) (result (some d))))
+      go : (x : Bool) → Fits (afterRoom cs b ws (cond x (refusal StackFull) (result (some d))))
       go true = h
       go false = h
   after-fits cs b ws (result none) h = go (leb slots (length cs)) (leb-false slots (length cs))
     where
-      go : (x : Bool) → (x ≡ false → length cs < slots) → Fits (afterRoom cs b ws (cond x (refusal 15) (result none)))
+      go : (x : Bool) → (x ≡ false → length cs < slots) → Fits (afterRoom cs b ws (cond x (refusal StoreFull) (result none)))
       go true k = h
       go false k = omega (arith, k refl, length-append cs (b ∷ []))
 
@@ -238,11 +238,11 @@ module _ (ns : List Float) (tol : Float) (slots : ℕ) where
   refine-fits-goes (refining cs []) t p h = no-goes p
   refine-fits-goes (refining cs (b ∷ ws)) t p h = let m = move-goes ns tol slots b ws cs t p in rw (m .2) (m .1)
   refine-fits-goes (advancing cs k) t p h = no-goes p
-  refine-fits-goes (over cs n) t p h = no-goes p
+  refine-fits-goes (stopped cs n) t p h = no-goes p
 
   pub refine-fits-pays : (s t : State) → refineStep ns tol slots s ≡ pays t → Fits s → Fits t
   unfolding refineStep
   refine-fits-pays (refining cs []) t p h = no-pays p
   refine-fits-pays (refining cs (b ∷ ws)) t p h = let m = move-pays ns tol slots b ws cs t p in rw (m .3) (after-fits cs b ws (trial ns tol (lastOf (m .0) (m .1)) b) h)
   refine-fits-pays (advancing cs k) t p h = no-pays p
-  refine-fits-pays (over cs n) t p h = no-pays p
+  refine-fits-pays (stopped cs n) t p h = no-pays p

@@ -9,30 +9,30 @@ use lib.Dec.{leb}
 use lib.ListN.{length, length-append}
 use lib.Ieee.{Float}
 use Rattle.errors.specs.Answer.{refusal}
-use Rattle.runs.specs.Run.{Move, ends, goes, Ending, ended, Out, under, whole}
+use Rattle.runs.specs.Run.{Move, ends, goes, Ending, ended, Final, underLimit, whole}
 use Rattle.runs.proofs.LimitLaws.{run-holds, ended-step, units-within, part-grows}
 use Rattle.inscribed.specs.Store.{stored}
 use Rattle.inscribed.specs.declared.Inscribed.{Inscribed}
 use Rattle.inscribed.proofs.StoreLaws.{stored-longer}
-use Rattle.moves.specs.Machine.{State, refining, advancing, over, circlesIn, End, finished, refineMove, measure}
-use Rattle.moves.specs.Report.{Report, reported}
-use Rattle.waiting.specs.Waiting.{refineStep, refineRun}
+use Rattle.refine.specs.Machine.{State, refining, advancing, stopped, circlesIn, End, finished, refineMove, measure, refineStep, refineRun}
+use Rattle.refine.specs.Report.{RunReport, reported}
 use Rattle.refine.proofs.MachineLaws.{refine-grows, Part, Kept, refine-offered-goes, refine-offered-pays, Fits, refine-fits-goes, refine-fits-pays}
+use Rattle.errors.specs.declared.Refusal.the-variants.{StoreFull}
 
 -- ---- one refinement
 
 module _ (ns : List Float) (tol : Float) (slots limit : ℕ) (old : List Float) where
   abbrev full : ℕ → Bool
-  full = under limit
+  full = underLimit limit
 
-  abbrev report : Ending End → ℕ → ℕ → List Float → Report
+  abbrev report : Ending End → ℕ → ℕ → List Float → RunReport
   report e n u store = record { ending = e; count = n; units = u; store = store }
 
   module _ (cs : List Inscribed) (b : Inscribed) (u : ℕ) (fits : length cs ≤ slots) (within : u ≤ limit) where
     abbrev start : State
     start = refining cs (b ∷ [])
 
-    abbrev refined : Out State End
+    abbrev refined : Final State End
     refined = refineRun ns tol slots full cs (b ∷ []) u
 
     abbrev fuel : ℕ
@@ -73,12 +73,12 @@ module _ (ns : List Float) (tol : Float) (slots limit : ℕ) (old : List Float) 
         go (inr q) = record { none-waits = refl; grown = omega (arith, ap length (q .2), length-append (q .1) (b ∷ []), q .3) }
     finished-done (refining [] (w ∷ ws)) k e = go (leb slots 0) e
       where
-        go : (x : Bool) → cond {A = Move State End} x (ends (refusal 15)) (goes (refining (w ∷ []) ws)) ≡ ends finished → Done (refining [] (w ∷ ws))
+        go : (x : Bool) → cond {A = Move State End} x (ends (refusal StoreFull)) (goes (refining (w ∷ []) ws)) ≡ ends finished → Done (refining [] (w ∷ ws))
         go true q = let z : _≡_ {A = ℕ} 0 1 = cc in absurd (omega arith)
         go false q = let z : _≡_ {A = ℕ} 0 1 = cc in absurd (omega arith)
     finished-done (refining (d ∷ ds) (w ∷ ws)) k e = let z : _≡_ {A = ℕ} 0 1 = cc in absurd (omega arith)
     finished-done (advancing ds j) k e = absurd (k .1)
-    finished-done (over ds n) k e = let z : _≡_ {A = ℕ} 0 1 = cc in absurd (omega arith)
+    finished-done (stopped ds n) k e = let z : _≡_ {A = ℕ} 0 1 = cc in absurd (omega arith)
 
     pub refined-done : refined .ending ≡ ended finished → Done (refined .state)
     refined-done e = finished-done (refined .state) refined-kept (refined-step e)

@@ -8,7 +8,7 @@ use native.Mathlib.Nat.{mod-eq-of-lt, lt-of-le-of-lt, le-of-lt, mul-le-mul-left,
 use native.Mathlib.Omega.{arith}
 use lib.Pow.{split}
 use lib.Dec.{T, leb, leb→le, nleb→lt}
-use Rattle.digits.specs.Parts.{Near}
+use Rattle.root.specs.Code.{NearRoot}
 
 product-lt : {a b m n : ℕ} → a < m → b < n → a * b < m * n
 product-lt {a} {b} {m} {n} h k = lt-of-le-of-lt (mul-le-mul-left a (le-of-lt k)) (mul-lt-mul-of-pos-right h (lt-of-le-of-lt zero-le k))
@@ -63,7 +63,7 @@ module _ (a q x y z d e f : ℕ)
       minus : e + y ≡ d * 2 ^ 25 + 2 ^ 64 → f + z + 1 + 2 ^ 27 * 2 ^ 64 ≡ e * 2 ^ 27 + q → f + z + 1 + y * 2 ^ 27 ≡ d * 2 ^ 52 + q
       minus g h = omega (arith, g, h)
 
-  near-of : q * q ≡ x * 2 ^ 52 + y * 2 ^ 27 + z → Near (a * 2 ^ 52) q
+  near-of : q * q ≡ x * 2 ^ 52 + y * 2 ^ 27 + z → NearRoot (a * 2 ^ 52) q
   near-of s = record { low = omega (arith, s, first, third); high = omega (arith, s, first, third, f-small) }
 
 -- ---- for the code's h and l
@@ -86,6 +86,6 @@ module _ (q l : ℕ) (hi : q < 2 ^ 53) (L : l ≡ q % 2 ^ 26) where
 
   pub nearest-test : (a d e f : ℕ) → 0 < q → (d + q / 2 ^ 26 * (q / 2 ^ 26)) % 2 ^ 64 ≡ a → d < 2 ^ 29
       → (e + q / 2 ^ 26 * l) % 2 ^ 64 ≡ d * 2 ^ 25 % 2 ^ 64 → e < 2 ^ 64 → (e + 2 ^ 27) % 2 ^ 64 < 2 ^ 28
-      → (f + l * l) % 2 ^ 64 ≡ (e * 2 ^ 27 % 2 ^ 64 + (q - 1)) % 2 ^ 64 → f < q * 2 → Near (a * 2 ^ 52) q
+      → (f + l * l) % 2 ^ 64 ≡ (e * 2 ^ 27 % 2 ^ 64 + (q - 1)) % 2 ^ 64 → f < q * 2 → NearRoot (a * 2 ^ 52) q
   nearest-test a d e f lo D d-small E e-fits e-small F f-small =
       near-of a q (q / 2 ^ 26 * (q / 2 ^ 26)) (q / 2 ^ 26 * l) (l * l) d e f square-lt cross-lt rest-lt lo hi D d-small E e-fits e-small F f-small parted

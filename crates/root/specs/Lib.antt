@@ -1,2 +1,4 @@
--- The square root of a binary64 value, asked for directly.
-pub mod Asked
+-- The square root of a binary64 value: what it is, and that it is the nearest value.
+pub mod Sqrt
+pub mod Nearest
+pub mod Code

@@ -1,9 +1,10 @@
 // Square roots of f64, correctly rounded, and the root asked for directly.
+pub mod digits;
+pub mod isqrt;
 
 ghost use mathlib.Core.Path.{_≡_};
-ghost use Rattle.errors.specs.Refusals.{listedScalar};
-ghost use Rattle.root.specs.Asked.{rootAsked};
-ghost use Rattle.digits.specs.Sqrt.{sqrtOf};
+ghost use Rattle.errors.specs.Answer.{listedScalar};
+ghost use Rattle.root.specs.Sqrt.{rootAsked, sqrtOf};
 
 mod estimate;
 

@@ -5,7 +5,7 @@ use mathlib.Core.Logic.{_⊎_, inl, inr, ⊎-elim}
 use Prim.Native.Nat.{ℕ, zero, suc, _≤_, _<_, min}
 use native.Mathlib.Omega.{arith}
 use borrow.Author.Tests.{leb-true, leb-false, le-leb}
-use Rattle.runs.specs.Run.{Move, ends, goes, pays, ended, spent, unfinished, Out, out, under, never, next, run, whole}
+use Rattle.runs.specs.Run.{Move, ends, goes, pays, ended, spent, unfinished, Final, finalOf, underLimit, never, next, run, whole}
 use Rattle.runs.proofs.RunLaws.{Falls, run-zero, run-step}
 
 -- a relation of states that each step keeps: `Part s t` says that s is a first part of t
@@ -28,7 +28,7 @@ module _ {S E : Type 0} (step : S → Move S E) (full : ℕ → Bool) (Holds : S
       go (goes t) p ih = ih t u (by-goes s t p h)
       go (pays t) p ih = pick (full u) (ih t (suc u) (by-pays s t p h))
         where
-          pick : (b : Bool) → Holds (run step full f t (suc u) .state) → Holds (cond b (out spent s u) (run step full f t (suc u)) .state)
+          pick : (b : Bool) → Holds (run step full f t (suc u) .state) → Holds (cond b (finalOf spent s u) (run step full f t (suc u)) .state)
           pick true k = h
           pick false k = k
 
@@ -45,22 +45,22 @@ module _ {S E : Type 0} (step : S → Move S E) where
       go (goes t) ih = ih t u
       go (pays t) ih = pick (full u) (ih t (suc u))
         where
-          pick : (b : Bool) → suc u ≤ run step full f t (suc u) .units → u ≤ cond b (out spent s u) (run step full f t (suc u)) .units
+          pick : (b : Bool) → suc u ≤ run step full f t (suc u) .units → u ≤ cond b (finalOf spent s u) (run step full f t (suc u)) .units
           pick true k = omega arith
           pick false k = omega arith
 
   -- a limit is kept
-  pub units-within : (limit f : ℕ) (s : S) (u : ℕ) → u ≤ limit → run step (under limit) f s u .units ≤ limit
+  pub units-within : (limit f : ℕ) (s : S) (u : ℕ) → u ≤ limit → run step (underLimit limit) f s u .units ≤ limit
   unfolding next
-  units-within limit zero s u h = rw (run-zero step (under limit) s u) h
-  units-within limit (suc f) s u h = rw (run-step step (under limit) f s u) (go (step s) (units-within limit f))
+  units-within limit zero s u h = rw (run-zero step (underLimit limit) s u) h
+  units-within limit (suc f) s u h = rw (run-step step (underLimit limit) f s u) (go (step s) (units-within limit f))
     where
-      go : (m : Move S E) → ((t : S) (v : ℕ) → v ≤ limit → run step (under limit) f t v .units ≤ limit) → next (under limit) (run step (under limit) f) s u m .units ≤ limit
+      go : (m : Move S E) → ((t : S) (v : ℕ) → v ≤ limit → run step (underLimit limit) f t v .units ≤ limit) → next (underLimit limit) (run step (underLimit limit) f) s u m .units ≤ limit
       go (ends e) ih = h
       go (goes t) ih = ih t u h
-      go (pays t) ih = pick (under limit u) (leb-false limit u) (ih t (suc u))
+      go (pays t) ih = pick (underLimit limit u) (leb-false limit u) (ih t (suc u))
         where
-          pick : (b : Bool) → (b ≡ false → u < limit) → (suc u ≤ limit → run step (under limit) f t (suc u) .units ≤ limit) → cond b (out spent s u) (run step (under limit) f t (suc u)) .units ≤ limit
+          pick : (b : Bool) → (b ≡ false → u < limit) → (suc u ≤ limit → run step (underLimit limit) f t (suc u) .units ≤ limit) → cond b (finalOf spent s u) (run step (underLimit limit) f t (suc u)) .units ≤ limit
           pick true w k = h
           pick false w k = k (w refl)
 
@@ -76,19 +76,19 @@ module _ {S E : Type 0} (step : S → Move S E) where
       go (pays t) ih p = ih t (suc u) p
 
   -- a spent run has had all its units
-  pub spent-units : (limit f : ℕ) (s : S) (u : ℕ) → u ≤ limit → run step (under limit) f s u .ending ≡ spent → run step (under limit) f s u .units ≡ limit
+  pub spent-units : (limit f : ℕ) (s : S) (u : ℕ) → u ≤ limit → run step (underLimit limit) f s u .ending ≡ spent → run step (underLimit limit) f s u .units ≡ limit
   unfolding next
-  spent-units limit zero s u h e = let p = (rw (run-zero step (under limit) s u) at e) in let z : _≡_ {A = ℕ} 0 1 = cc in absurd (omega arith)
-  spent-units limit (suc f) s u h e = rw (run-step step (under limit) f s u) (go (step s) (spent-units limit f) (rw (run-step step (under limit) f s u) at e))
+  spent-units limit zero s u h e = let p = (rw (run-zero step (underLimit limit) s u) at e) in let z : _≡_ {A = ℕ} 0 1 = cc in absurd (omega arith)
+  spent-units limit (suc f) s u h e = rw (run-step step (underLimit limit) f s u) (go (step s) (spent-units limit f) (rw (run-step step (underLimit limit) f s u) at e))
     where
-      go : (m : Move S E) → ((t : S) (v : ℕ) → v ≤ limit → run step (under limit) f t v .ending ≡ spent → run step (under limit) f t v .units ≡ limit)
-          → next (under limit) (run step (under limit) f) s u m .ending ≡ spent → next (under limit) (run step (under limit) f) s u m .units ≡ limit
+      go : (m : Move S E) → ((t : S) (v : ℕ) → v ≤ limit → run step (underLimit limit) f t v .ending ≡ spent → run step (underLimit limit) f t v .units ≡ limit)
+          → next (underLimit limit) (run step (underLimit limit) f) s u m .ending ≡ spent → next (underLimit limit) (run step (underLimit limit) f) s u m .units ≡ limit
       go (ends x) ih p = let z : _≡_ {A = ℕ} 0 1 = cc in absurd (omega arith)
       go (goes t) ih p = ih t u h p
-      go (pays t) ih p = pick (under limit u) (leb-true limit u) (leb-false limit u) p
+      go (pays t) ih p = pick (underLimit limit u) (leb-true limit u) (leb-false limit u) p
         where
-          pick : (b : Bool) → (b ≡ true → limit ≤ u) → (b ≡ false → u < limit) → cond b (out spent s u) (run step (under limit) f t (suc u)) .ending ≡ spent
-              → cond b (out spent s u) (run step (under limit) f t (suc u)) .units ≡ limit
+          pick : (b : Bool) → (b ≡ true → limit ≤ u) → (b ≡ false → u < limit) → cond b (finalOf spent s u) (run step (underLimit limit) f t (suc u)) .ending ≡ spent
+              → cond b (finalOf spent s u) (run step (underLimit limit) f t (suc u)) .units ≡ limit
           pick true w v q = omega (arith, w refl)
           pick false w v q = ih t (suc u) (v refl) q
 
@@ -118,8 +118,8 @@ module _ {S E : Type 0} (step : S → Move S E) where
           where
             pick : (a b : Bool) → (b ≡ true → a ≡ true)
                 → (run step small f t (suc u) ≡ run step large f t (suc u)) ⊎ ((run step small f t (suc u) .ending ≡ spent) × (run step small f t (suc u) .units < run step large f t (suc u) .units) × Part (run step small f t (suc u) .state) (run step large f t (suc u) .state))
-                → (cond a (out spent s u) (run step small f t (suc u)) ≡ cond b (out spent s u) (run step large f t (suc u)))
-                ⊎ ((cond a (out spent s u) (run step small f t (suc u)) .ending ≡ spent) × (cond a (out spent s u) (run step small f t (suc u)) .units < cond b (out spent s u) (run step large f t (suc u)) .units) × Part (cond a (out spent s u) (run step small f t (suc u)) .state) (cond b (out spent s u) (run step large f t (suc u)) .state))
+                → (cond a (finalOf spent s u) (run step small f t (suc u)) ≡ cond b (finalOf spent s u) (run step large f t (suc u)))
+                ⊎ ((cond a (finalOf spent s u) (run step small f t (suc u)) .ending ≡ spent) × (cond a (finalOf spent s u) (run step small f t (suc u)) .units < cond b (finalOf spent s u) (run step large f t (suc u)) .units) × Part (cond a (finalOf spent s u) (run step small f t (suc u)) .state) (cond b (finalOf spent s u) (run step large f t (suc u)) .state))
             pick true true w k = inl refl
             pick true false w k = inr (refl, units-grow large f t (suc u), grows .chain s t _ (grows .pays-on s t p) (part-grows large f t (suc u)))
             pick false false w k = k
@@ -128,22 +128,22 @@ module _ {S E : Type 0} (step : S → Move S E) where
 -- ---- the laws of limits, of the whole run from a state on with no unit taken
 
 module _ {S E : Type 0} (step : S → Move S E) (measure : S → ℕ) (s : S) where
-  abbrev pub plain : Out S E
+  abbrev pub plain : Final S E
   plain = whole step measure never s 0
 
-  abbrev pub limited : ℕ → Out S E
-  limited limit = whole step measure (under limit) s 0
+  abbrev pub limited : ℕ → Final S E
+  limited limit = whole step measure (underLimit limit) s 0
 
   module _ (Part : S → S → Type 0) (grows : Grows step Part) where
     with-plain : (limit : ℕ) → (limited limit ≡ plain) ⊎ ((limited limit .ending ≡ spent) × (limited limit .units < plain .units) × Part (limited limit .state) (plain .state))
     unfolding whole
-    with-plain limit = compared step Part grows (under limit) never (λ u e. let z : _≡_ {A = ℕ} 0 1 = cc in absurd (omega arith)) (suc (measure s)) s 0
+    with-plain limit = compared step Part grows (underLimit limit) never (λ u e. let z : _≡_ {A = ℕ} 0 1 = cc in absurd (omega arith)) (suc (measure s)) s 0
 
     with-larger : (limit more : ℕ) → limit ≤ more
         → (limited limit ≡ limited more) ⊎ ((limited limit .ending ≡ spent) × (limited limit .units < limited more .units) × Part (limited limit .state) (limited more .state))
     unfolding whole
     with-larger limit more h =
-        compared step Part grows (under limit) (under more) (λ u e. le-leb limit u (omega (arith, leb-true more u e))) (suc (measure s)) s 0
+        compared step Part grows (underLimit limit) (underLimit more) (λ u e. le-leb limit u (omega (arith, leb-true more u e))) (suc (measure s)) s 0
 
     within : (limit : ℕ) → limited limit .units ≤ limit
     unfolding whole
@@ -159,10 +159,10 @@ module _ {S E : Type 0} (step : S → Move S E) (measure : S → ℕ) (s : S) wh
 
     -- spent exactly where the run without a limit takes more units than the limit
     pub spent-if : (limit : ℕ) → limit < plain .units → limited limit .ending ≡ spent
-    spent-if limit h = ⊎-elim (λ e. absurd (omega (arith, within limit, ap (λ (o : Out S E). o .units) e))) (λ k. k .0) (with-plain limit)
+    spent-if limit h = ⊎-elim (λ e. absurd (omega (arith, within limit, ap (λ (o : Final S E). o .units) e))) (λ k. k .0) (with-plain limit)
 
     pub if-spent : (limit : ℕ) → limited limit .ending ≡ spent → limit < plain .units
-    if-spent limit p = ⊎-elim (λ e. absurd (plain-ends (sym (ap (λ (o : Out S E). o .ending) e) ∙ p))) (λ k. omega (arith, k .1, all-units limit p)) (with-plain limit)
+    if-spent limit p = ⊎-elim (λ e. absurd (plain-ends (sym (ap (λ (o : Final S E). o .ending) e) ∙ p))) (λ k. omega (arith, k .1, all-units limit p)) (with-plain limit)
 
     -- any other ending is that of the run without a limit, with all else
     pub not-spent : (limit : ℕ) → (limited limit .ending ≡ spent → ⊥) → limited limit ≡ plain
@@ -172,7 +172,7 @@ module _ {S E : Type 0} (step : S → Move S E) (measure : S → ℕ) (s : S) wh
     pub units-min : (limit : ℕ) → limited limit .units ≡ min limit (plain .units)
     units-min limit =
         ⊎-elim
-        (λ e. let q = ap (λ (o : Out S E). o .units) e in omega (arith, within limit, q))
+        (λ e. let q = ap (λ (o : Final S E). o .units) e in omega (arith, within limit, q))
         (λ k. omega (arith, k .1, all-units limit (k .0)))
         (with-plain limit)
 
@@ -196,7 +196,7 @@ module _ {S E : Type 0} (step : S → Move S E) (measure : S → ℕ) (falls : F
       go (goes t) p ih q = ih t u (omega (arith, falls s t .0 p)) q
       go (pays t) p ih q = pick (full u) (ih t (suc u) (omega (arith, falls s t .1 p))) q
         where
-          pick : (b : Bool) → (run step full f t (suc u) .ending ≡ unfinished → ⊥) → cond b (out spent s u) (run step full f t (suc u)) .ending ≡ unfinished → ⊥
+          pick : (b : Bool) → (run step full f t (suc u) .ending ≡ unfinished → ⊥) → cond b (finalOf spent s u) (run step full f t (suc u)) .ending ≡ unfinished → ⊥
           pick true k r = let z : _≡_ {A = ℕ} 0 1 = cc in omega arith
           pick false k r = k r
 
@@ -218,6 +218,6 @@ module _ {S E : Type 0} (step : S → Move S E) (full : ℕ → Bool) where
       go (pays t) q ih r = pick (full u) (ih t (suc u) e) r
         where
           pick : (b : Bool) → (run step full f t (suc u) .ending ≡ ended e → step (run step full f t (suc u) .state) ≡ ends e)
-              → cond b (out spent s u) (run step full f t (suc u)) .ending ≡ ended e → step (cond b (out spent s u) (run step full f t (suc u)) .state) ≡ ends e
+              → cond b (finalOf spent s u) (run step full f t (suc u)) .ending ≡ ended e → step (cond b (finalOf spent s u) (run step full f t (suc u)) .state) ≡ ends e
           pick true k w = let z : _≡_ {A = ℕ} 0 1 = cc in absurd (omega arith)
           pick false k w = k w

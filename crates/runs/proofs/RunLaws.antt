@@ -3,7 +3,7 @@ use mathlib.Core.Path.{_≡_, refl, sym, ap, _∙_}
 use mathlib.Core.Bool.{Bool, true, false, cond}
 use Prim.Native.Nat.{ℕ, zero, suc, _<_}
 use native.Mathlib.Omega.{arith}
-use Rattle.runs.specs.Run.{Move, ends, goes, pays, ended, spent, unfinished, Out, out, next, run, whole}
+use Rattle.runs.specs.Run.{Move, ends, goes, pays, ended, spent, unfinished, Final, finalOf, next, run, whole}
 
 -- each step from a state leads to one with a smaller measure
 abbrev pub Falls : {S E : Type 0} → (S → Move S E) → (S → ℕ) → Type 0
@@ -11,7 +11,7 @@ Falls {S} step measure = (s t : S) → (step s ≡ goes t → measure t < measur
 
 -- ---- one state of a run
 
-pub run-zero : {S E : Type 0} (step : S → Move S E) (full : ℕ → Bool) (s : S) (u : ℕ) → run step full zero s u ≡ out unfinished s u
+pub run-zero : {S E : Type 0} (step : S → Move S E) (full : ℕ → Bool) (s : S) (u : ℕ) → run step full zero s u ≡ finalOf unfinished s u
 unfolding run
 run-zero step full s u = refl
 
@@ -20,7 +20,7 @@ module _ {S E : Type 0} (step : S → Move S E) (full : ℕ → Bool) (f : ℕ) 
   unfolding run
   run-step = refl
 
-  pub run-ends : (e : E) → step s ≡ ends e → run step full (suc f) s u ≡ out (ended e) s u
+  pub run-ends : (e : E) → step s ≡ ends e → run step full (suc f) s u ≡ finalOf (ended e) s u
   unfolding next
   run-ends e p = run-step ∙ rw p
 
@@ -32,7 +32,7 @@ module _ {S E : Type 0} (step : S → Move S E) (full : ℕ → Bool) (f : ℕ) 
   unfolding next
   run-pays t p q = run-step ∙ rw (p, q)
 
-  pub run-spent : (t : S) → step s ≡ pays t → full u ≡ true → run step full (suc f) s u ≡ out spent s u
+  pub run-spent : (t : S) → step s ≡ pays t → full u ≡ true → run step full (suc f) s u ≡ finalOf spent s u
   unfolding next
   run-spent t p q = run-step ∙ rw (p, q)
 
@@ -50,10 +50,10 @@ module _ {S E : Type 0} (step : S → Move S E) (measure : S → ℕ) (falls : F
           → next full (run step full f) s u m ≡ next full (run step full g) s u m
       go (ends e) p ih = refl
       go (goes t) p ih = ih t u (omega (arith, falls s t .0 p)) (omega (arith, falls s t .0 p))
-      go (pays t) p ih = ap (λ (r : Out S E). cond (full u) (out spent s u) r) (ih t (suc u) (omega (arith, falls s t .1 p)) (omega (arith, falls s t .1 p)))
+      go (pays t) p ih = ap (λ (r : Final S E). cond (full u) (finalOf spent s u) r) (ih t (suc u) (omega (arith, falls s t .1 p)) (omega (arith, falls s t .1 p)))
 
   module _ (s : S) (u : ℕ) where
-    pub whole-ends : (e : E) → step s ≡ ends e → whole step measure full s u ≡ out (ended e) s u
+    pub whole-ends : (e : E) → step s ≡ ends e → whole step measure full s u ≡ finalOf (ended e) s u
     unfolding whole
     whole-ends e p = run-ends step full (measure s) s u e p
 
@@ -65,6 +65,6 @@ module _ {S E : Type 0} (step : S → Move S E) (measure : S → ℕ) (falls : F
     unfolding whole
     whole-pays t p q = run-pays step full (measure s) s u t p q ∙ fuel-free (measure s) (suc (measure t)) t (suc u) (falls s t .1 p) (omega arith)
 
-    pub whole-spent : (t : S) → step s ≡ pays t → full u ≡ true → whole step measure full s u ≡ out spent s u
+    pub whole-spent : (t : S) → step s ≡ pays t → full u ≡ true → whole step measure full s u ≡ finalOf spent s u
     unfolding whole
     whole-spent t p q = run-spent step full (measure s) s u t p q

@@ -1,5 +1,5 @@
 -- The entry points of a section: each makes the entry tests (1, 2, 3, 4, 6 in number order) and then its step. Assumes nothing.
-use mathlib.Core.Bool.{Bool, false, not, _&&_}
+use mathlib.Core.Bool.{Bool, true, false, not, _&&_}
 use mathlib.Core.List.{List}
 use Prim.Native.Nat.{ℕ, _/_}
 use lib.Dec.{ltb}
@@ -7,7 +7,6 @@ use lib.ListN.{length}
 use lib.Ieee.{Float}
 use lib.Ieee.Scale.{finite}
 use Rattle.errors.specs.Answer.{Answer, result, refusal, watched, _>>=_}
-use Rattle.errors.specs.Refusals.{numberOf}
 use Rattle.points.specs.declared.Point2.{Point2}
 use Rattle.line2.specs.declared.Line2.{Line2}
 use Rattle.curve2.specs.Section.{isClosed, wholeLength}
@@ -15,11 +14,11 @@ use Rattle.curve2.specs.Entry.{sectionEntry}
 use Rattle.curve2.specs.declared.AlsoBad.{AlsoBad}
 use Rattle.queries.specs.Crossing.{crossingOf, joinedCrossingOf, orNoCrossing}
 use Rattle.queries.specs.declared.Crossing.{Crossing}
-use Rattle.vertices.specs.Stations.{lastVertex, atVertex}
-use Rattle.vertices.specs.declared.CurveStation2.{CurveStation2}
-use Rattle.stations.specs.Along.{atLength, lengthAlong}
-use Rattle.stations.specs.Closest.{atClosest}
+use Rattle.curve2.specs.Stations.{lastVertex, atVertex}
+use Rattle.curve2.specs.declared.CurveStation2.{CurveStation2}
+use Rattle.sections.specs.Places.{atLength, lengthAlong, atClosest}
 use Rattle.sections.specs.declared.BoolAnswer.{BoolAnswer}
+use Rattle.sections.specs.declared.CrossingAsked.{CrossingAsked}
 
 -- nothing beside the section; a number that isn't finite (2); a place that isn't there (4)
 abbrev pub alone : AlsoBad
@@ -55,7 +54,7 @@ backAsked ns tol = sectionEntry ns tol alone >>= λ passed. atVertex ns tol (las
 
 -- a vertex beyond the last is a place that isn't there: 4
 unfoldable pub vertexAsked : List Float → Float → ℕ → Answer CurveStation2
-vertexAsked ns tol i = sectionEntry ns tol (record { number = false; tolerance = false; room = not (ltb i (length ns / 2)) }) >>= λ passed. atVertex ns tol i
+vertexAsked ns tol i = sectionEntry ns tol (withPlace true (ltb i (length ns / 2))) >>= λ passed. atVertex ns tol i
 
 -- a length that isn't finite is 2, one off the curve is 9
 unfoldable pub atLengthAsked : List Float → Float → Float → Answer CurveStation2
@@ -76,6 +75,12 @@ crossingAsked ns tol l = sectionEntry ns tol (withNumber (finiteLine l)) >>= λ 
 unfoldable pub joinedAsked : List Float → Float → Line2 → Answer Crossing
 joinedAsked ns tol l = sectionEntry ns tol (withNumber (finiteLine l)) >>= λ passed. joinedCrossingOf ns l >>= orNoCrossing
 
+-- ---- what the answers list: the result, or the refusal
+
 abbrev pub listedBool : BoolAnswer → Answer Bool
 listedBool (BoolAnswer.Value b) = result b
-listedBool (BoolAnswer.Refused r) = refusal (numberOf r)
+listedBool (BoolAnswer.Refused r) = refusal r
+
+abbrev pub listedCrossingAsked : CrossingAsked → Answer Crossing
+listedCrossingAsked (CrossingAsked.Value c) = result c
+listedCrossingAsked (CrossingAsked.Refused r) = refusal r

@@ -1,21 +1,26 @@
 // What is asked of a section handed in. Each function makes the entry tests, and then its step.
+pub mod checked;
+
 use curve2::AlsoBad;
 use curve2::Entry;
+use curve2::StationAnswer;
+use curve2::entering;
 use errors::Refusal;
 use errors::ScalarAnswer;
 use line2::Line2;
 use points::Point2;
 use queries::Crossing;
 use queries::CrossingAnswer;
-use vertices::StationAnswer;
 ghost use mathlib.Core.Path.{_≡_};
 ghost use mathlib.Core.Bool.{false};
 ghost use lib.Dec.{ltb};
-ghost use Rattle.errors.specs.Refusals.{listedScalar};
+ghost use Rattle.errors.specs.Answer.{listedScalar};
 ghost use Rattle.curve2.specs.Entry.{sectionEntry, listedEntry};
-ghost use Rattle.vertices.specs.Stations.{lastVertex, listedStation};
-ghost use Rattle.sections.specs.Asked.{finitePoint, finiteLine, closedAsked, lengthAsked, frontAsked, backAsked, vertexAsked, atLengthAsked, lengthAlongAsked, closestAsked, crossingAsked, joinedAsked, listedBool};
-ghost use Rattle.sections.specs.Listed.{listedCrossingAsked, askedOf};
+ghost use Rattle.curve2.specs.Stations.{lastVertex, listedStation};
+ghost use Rattle.sections.specs.Asked.{finitePoint, finiteLine, closedAsked, lengthAsked, frontAsked, backAsked, vertexAsked, atLengthAsked, lengthAlongAsked, closestAsked, crossingAsked, joinedAsked, listedBool, listedCrossingAsked};
+ghost use Rattle.sections.specs.Code.{askedOf};
+
+mod lengths;
 
 // Yes or no, or why there is neither.
 pub enum BoolAnswer {
@@ -40,7 +45,7 @@ fn entered(section: &[f64], tol: f64, number: bool, room: bool) -> Entry
         tolerance: false,
         room,
     };
-    entry::section_entry(section, tol, also)
+    entering::section_entry(section, tol, also)
 }
 
 // Whether a section has an edge of that number.
@@ -86,7 +91,7 @@ pub fn is_closed(section: &[f64], tol: f64) -> BoolAnswer
     ensures { λ r. ⌜ listedBool r ≡ closedAsked (now (section .entry)) tol ⌝ }
 {
     match entered(section, tol, false, false) {
-        Entry::Passed => BoolAnswer::Value(curve2::is_closed(section, tol)),
+        Entry::Passed => BoolAnswer::Value(curve2::checked::is_closed(section, tol)),
         Entry::Refused(r) => BoolAnswer::Refused(r),
     }
 }
@@ -96,7 +101,7 @@ pub fn length(section: &[f64], tol: f64) -> ScalarAnswer
     ensures { λ r. ⌜ listedScalar r ≡ lengthAsked (now (section .entry)) tol ⌝ }
 {
     match entered(section, tol, false, false) {
-        Entry::Passed => errors::watch(curve2::whole_length(section)),
+        Entry::Passed => errors::watch(curve2::checked::whole_length(section)),
         Entry::Refused(r) => ScalarAnswer::Refused(r),
     }
 }
@@ -108,7 +113,7 @@ pub fn at_front(section: &[f64], tol: f64) -> StationAnswer
     ensures { λ r. ⌜ listedStation r ≡ frontAsked (now (section .entry)) tol ⌝ }
 {
     match entered(section, tol, false, false) {
-        Entry::Passed => vertices::at_front(section, tol),
+        Entry::Passed => curve2::checked::at_front(section, tol),
         Entry::Refused(r) => StationAnswer::Refused(r),
     }
 }
@@ -118,7 +123,7 @@ pub fn at_back(section: &[f64], tol: f64) -> StationAnswer
     ensures { λ r. ⌜ listedStation r ≡ backAsked (now (section .entry)) tol ⌝ }
 {
     match entered(section, tol, false, false) {
-        Entry::Passed => vertices::at_back(section, tol),
+        Entry::Passed => curve2::checked::at_back(section, tol),
         Entry::Refused(r) => StationAnswer::Refused(r),
     }
 }
@@ -129,7 +134,7 @@ pub fn at_vertex(section: &[f64], tol: f64, index: usize) -> StationAnswer
 {
     let there = index < section.len() / 2;
     match entered(section, tol, false, !there) {
-        Entry::Passed => vertices::at_vertex(section, tol, index),
+        Entry::Passed => curve2::checked::at_vertex(section, tol, index),
         Entry::Refused(r) => StationAnswer::Refused(r),
     }
 }
@@ -140,7 +145,7 @@ pub fn at_length(section: &[f64], tol: f64, length: f64) -> StationAnswer
 {
     let good = errors::is_finite(length);
     match entered(section, tol, !good, false) {
-        Entry::Passed => stations::along::at_length(section, tol, length),
+        Entry::Passed => lengths::at_length(section, tol, length),
         Entry::Refused(r) => StationAnswer::Refused(r),
     }
 }
@@ -152,7 +157,7 @@ pub fn length_along(section: &[f64], tol: f64, index: usize, fraction: f64) -> S
     let good = errors::is_finite(fraction);
     let there = has_edge(section, index);
     match entered(section, tol, !good, !there) {
-        Entry::Passed => stations::along::length_along(section, index, fraction),
+        Entry::Passed => checked::length_along(section, index, fraction),
         Entry::Refused(r) => ScalarAnswer::Refused(r),
     }
 }
@@ -163,7 +168,7 @@ pub fn at_closest_to_point(section: &[f64], tol: f64, p: Point2) -> StationAnswe
 {
     let good = is_finite_point(p);
     match entered(section, tol, !good, false) {
-        Entry::Passed => stations::nearest::at_closest_to_point(section, p),
+        Entry::Passed => checked::at_closest_to_point(section, p),
         Entry::Refused(r) => StationAnswer::Refused(r),
     }
 }
@@ -187,7 +192,7 @@ pub fn crossing_line(section: &[f64], tol: f64, line: Line2) -> CrossingAsked
 {
     let good = is_finite_line(line);
     match entered(section, tol, !good, false) {
-        Entry::Passed => asked(queries::crossings::crossing_line(section, line)),
+        Entry::Passed => asked(queries::checked::crossing_line(section, line)),
         Entry::Refused(r) => CrossingAsked::Refused(r),
     }
 }
@@ -198,7 +203,7 @@ pub fn joined_crossing(section: &[f64], tol: f64, line: Line2) -> CrossingAsked
 {
     let good = is_finite_line(line);
     match entered(section, tol, !good, false) {
-        Entry::Passed => asked(joined::joined_crossing(section, line)),
+        Entry::Passed => asked(queries::checked::joined_crossing(section, line)),
         Entry::Refused(r) => CrossingAsked::Refused(r),
     }
 }

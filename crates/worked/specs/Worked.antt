@@ -2,61 +2,50 @@
 use mathlib.Core.Path.{_≡_, refl}
 use mathlib.Core.Bool.{Bool, true, false}
 use mathlib.Core.List.{List, [], _∷_}
-use Prim.Native.Nat.{ℕ, zero, suc}
+use Prim.Native.Nat.{ℕ}
 use lib.Count.{trailingZeros}
 use lib.Ieee.{Float, binary64, ofBits, ofFields, odd, units, round, size, span, climb, neg, sum, add, sub, mul, div, lt, eq, le}
-use Rattle.errors.specs.Answer.{Answer, result, refusal, _>>=_}
+use Rattle.errors.specs.Answer.{Answer, result, refusal}
 use Rattle.errors.specs.Lists.{lastOf}
-use Rattle.isqrt.specs.Whole.{rootDigits, wholeRoot}
-use Rattle.digits.specs.Sqrt.{rootOfUnits, sqrtOf}
-use Rattle.root.specs.Asked.{rootAsked}
-use Rattle.points.specs.Points.{dotOf, normOf, distOf, difference, normalized}
+use Rattle.root.specs.Sqrt.{rootDigits, wholeRoot, rootOfUnits, sqrtOf, rootAsked}
+use Rattle.points.specs.Numbers.{f0, f½, f1}
+use Rattle.points.specs.Points.{dotOf, normOf, distOf, difference, normalized, midPointOf}
 use Rattle.points.specs.declared.Vector2.{Vector2}
-use Rattle.line2.specs.Lines.{lineOf, lineThrough, atParam, lineProjection}
+use Rattle.line2.specs.Lines.{lineOf, lineThrough, atParam, lineProjection, lineNormalized}
 use Rattle.line2.specs.Intersection.{intersectionParam}
 use Rattle.line2.specs.declared.Line2.{Line2}
-use Rattle.curve2.specs.Section.{point, pointsOf, plainDist, isClosed, wholeFrom}
-use Rattle.curve2.specs.Entry.{badNumbers, notSpacedFrom, sectionEntry}
-use Rattle.keeping.specs.Kept.{keptAfter, kept, endsMeet}
-use Rattle.cleaning.specs.Cleaning.{forcedClosed, curveOf, cleaned}
-use Rattle.hits.specs.Edges.{edgesOf}
-use Rattle.hits.specs.Hits.{edgeHit, hitsFrom, inserted, sortedInto, droppedAfter, dropped}
+use Rattle.curve2.specs.Section.{point, pointsOf, plainDist, endsMeet, isClosed, lengthsFrom, lengthsOf, wholeLength}
+use Rattle.curve2.specs.Entry.{badNumbers, crowded, notRising, sectionEntry}
+use Rattle.cleaning.specs.Cleaning.{keptAfter, kept, forcedClosed, curveOf, cleaned}
+use Rattle.queries.specs.Hits.{edgesOf, edgeHit, hitsFrom, inserted, sortedInto, droppedAfter, dropped}
 use Rattle.queries.specs.Crossing.{spanOf, spanned, crossed, crossingWith}
 use Rattle.queries.specs.declared.Crossing.{Crossing}
-use Rattle.closest.specs.Nearest.{closestOnAll, leastOf, leastOfAll, nearestOf}
-use Rattle.segment2.specs.Closest.{fractionOn, heldPoint, measuredTo, closestOnEdge}
-use Rattle.vertices.specs.Stations.{edgeDirection, meanDirection, vertexDirection, atVertex, station}
-use Rattle.stations.specs.Along.{insideEdge, atLengthFrom, atLength}
-use Rattle.inscribed.specs.Circles.{inscribed}
-use Rattle.bisection.specs.Bisection.{Ends, halved, between, isWide, halving}
-use Rattle.halving.specs.Halving.{resolveTol, firstEnds, fromLine, fromCrossing}
+use Rattle.queries.specs.Nearest.{closestOnAll, leastOf, leastOfAll, nearestOf}
+use Rattle.points.specs.Closest.{fractionOn, heldPoint, measuredTo, closestOnEdge}
+use Rattle.curve2.specs.Stations.{edgeDirection, meanDirection, vertexDirection, atVertex, station}
+use Rattle.sections.specs.Places.{insideEdge, atLengthFrom, atLength}
+use Rattle.inscribed.specs.Circles.{inscribed, camberPoint}
+use Rattle.halving.specs.Halving.{movedEnds, halved, circleBetween, halving, halvedFrom, resolveTol, firstEnds, fromLine, fromCrossing, circleOn, tryInscribed}
 use Rattle.sections.specs.Asked.{atLengthAsked, crossingAsked, joinedAsked}
-use Rattle.inscribed.specs.Circles.{camberPoint}
 use Rattle.inscribed.specs.Store.{numbersOf, circleFrom, circlesFrom, allNumbers, stored, badCircle, anyBad}
 use Rattle.inscribed.specs.declared.Inscribed.{Inscribed}
-use Rattle.points.specs.Points.{midPointOf}
-use Rattle.line2.specs.Lines.{lineNormalized}
-use Rattle.surface2.specs.Rays.{rayNormalized, rayProjection, atDistance, shiftedRay, halfwayRay}
-use Rattle.tryline.specs.TryInscribed.{circleOn, tryInscribed}
-use Rattle.trial.specs.Trial.{judged, trial}
+use Rattle.line2.specs.Rays.{rayNormalized, rayProjection, atDistance, shiftedRay, halfwayRay}
+use Rattle.circles.specs.Trial.{judged, triedOn, trial}
 use Rattle.runs.specs.Run.{Ending, ended, spent, next, run, whole}
-use Rattle.moves.specs.Machine.{withRoom, afterTrial, refineMove, measure}
-use Rattle.waiting.specs.Waiting.{refineStep}
-use Rattle.measures.specs.Lists.{frontAndBack, tmaxFrom, tmax}
+use Rattle.refine.specs.Machine.{withRoom, afterTrial, refineMove, measure, refineStep}
+use Rattle.inscribed.specs.Lists.{frontAndBack, tmaxFrom, tmax}
 use Rattle.lists.specs.Asked.{storeEntry, tmaxAsked}
-use Rattle.checks.specs.Checks.{centerDot, lessForward, dirFwd, voteOf, votesFrom, dirUpper}
-use Rattle.orient.specs.Orientation.{orientEntry, fwdAsked, upperAsked}
+use Rattle.orient.specs.Orientation.{centerDot, lessForward, dirFwd, voteOf, votesFrom, dirUpper, orientEntry, fwdAsked, fwdStore, upperAsked, upperStore}
 use Rattle.orient.specs.declared.OrientFwdAft.the-variants.{Airflow, Fwd}
 use Rattle.orient.specs.declared.OrientUpperLower.the-variants.{Upper, Lower}
-use Rattle.ends.specs.Ends.{lastPair, middleLine, facedLine, clipLine, endCamberRay}
+use Rattle.lists.specs.Ends.{lastPair, middleLine, facedLine, clipLine, endCamberRay}
 use Rattle.gap.specs.Gap.{gapOf, capPoint, capIntersection}
-use Rattle.probeline.specs.Probeline.{aheadOf, turnedTo, acrossRay, probeLine}
-use Rattle.probe.specs.Probe.{probed}
-use Rattle.round.specs.Round.{FitEnd, movedPoint, afterMove, afterRefined, afterProbe, round as oneRound}
-use Rattle.rounds.specs.Rounds.{onward, rounds}
-use Rattle.openings.specs.Openings.{startOf, fitStart, fitFrom}
-use Rattle.fits.specs.Fitted.{FitReport, fitReported, fitted}
-use Rattle.edges.specs.Fit.{EdgeInput, edgeEntry, fitAfter, fitOf}
+use Rattle.gap.specs.Probe.{aheadOf, turnedTo, acrossRay, probeLine, probed}
+use Rattle.refine.specs.Report.{Called, ran, calledNumber}
+use Rattle.points.specs.declared.Point2.{Point2}
+use Rattle.gap.specs.Rounds.{FitEnd, movedPoint, afterMove, afterRefined, afterProbe, round as oneRound, onward, rounds}
+use Rattle.edges.specs.Edges.{startAtEnd, fitStart, fitFrom, fitReported, fitted, EdgeInput, edgeEntry, fitAfter, fitOf}
+use Rattle.errors.specs.declared.Refusal.the-variants.{GapMissed, NoCrossing, OffCurve, TooFewKept}
 
 -- what the definitions give, and what the sum says
 pub data Row : Type 1 where
@@ -67,15 +56,6 @@ Holds [] = Unit {0}
 Holds (row given wanted ∷ rows) = (given ≡ wanted) × Holds rows
 
 -- ---- numbers
-
-abbrev f0 : Float
-f0 = ofBits binary64 0x0000000000000000
-
-abbrev f½ : Float
-f½ = ofBits binary64 0x3fe0000000000000
-
-abbrev f1 : Float
-f1 = ofBits binary64 0x3ff0000000000000
 
 abbrev f1½ : Float
 f1½ = ofBits binary64 0x3ff8000000000000
@@ -146,21 +126,37 @@ circle x r = inscribed (point x f1) r (point x f0) (point x f2)
 unused : Inscribed
 unused = inscribed (point f0 f0) f0 (point f0 f0) (point f0 f0)
 
--- P9's two circles, and P10's
+-- P9's two circles, and with their contacts swapped
 pairOfU : List Float
 unfolding circle
 pairOfU = allNumbers (circle f4 f1 ∷ circle f5 f1 ∷ [])
 
+swappedOfU : List Float
+swappedOfU = allNumbers (inscribed (point f4 f1) f1 (point f4 f2) (point f4 f0) ∷ inscribed (point f5 f1) f1 (point f5 f2) (point f5 f0) ∷ [])
+
+-- P10's two circles, and in the other order
+atX : Float → Inscribed
+atX x = inscribed (point x f0) f1 (point x (neg f1)) (point x f1)
+
 onAxis : List Float
-onAxis = allNumbers (inscribed (point f1 f0) f1 (point f1 (neg f1)) (point f1 f1) ∷ inscribed (point f5 f0) f1 (point f5 (neg f1)) (point f5 f1) ∷ [])
+unfolding atX
+onAxis = allNumbers (atX f1 ∷ atX f5 ∷ [])
+
+turnedOnAxis : List Float
+unfolding atX
+turnedOnAxis = allNumbers (atX f5 ∷ atX f1 ∷ [])
 
 -- the circles of P11 and P12 in a store of three slots
 edgeOfU : Bool → EdgeInput
 unfolding U circle unused
 edgeOfU atFront = record { section = U; sectionTol = f0·001; tol = f0·01; store = allNumbers (circle f4 f1 ∷ circle f5 f1 ∷ unused ∷ []); count = 2; atFront = atFront }
 
-report : Ending FitEnd → ℕ → ℕ → List Inscribed → FitReport
-report e count units cs = record { ending = e; count = count; units = units; store = allNumbers cs }
+-- what a fit gives, with its number
+numbered : Called Point2 → ℕ × Called Point2
+numbered c = (calledNumber c, c)
+
+fitRan : Ending FitEnd → ℕ → ℕ → List Inscribed → Called Point2
+fitRan e count units cs = ran (record { ending = e; count = count; units = units; store = allNumbers cs })
 
 -- 1.00048828125 and 0.99951171875
 abbrev high : Float
@@ -168,6 +164,13 @@ high = ofBits binary64 0x3ff0020000000000
 
 abbrev narrow : Float
 narrow = ofBits binary64 0x3feffc0000000000
+
+-- 1.0009765625 and 0.9990234375
+abbrev higher : Float
+higher = ofBits binary64 0x3ff0040000000000
+
+abbrev narrower : Float
+narrower = ofBits binary64 0x3feff80000000000
 
 -- ---- rows
 
@@ -183,7 +186,7 @@ P2 = row (cleaned four f½ false 10) (result (point f0 f0 ∷ point f1 f0 ∷ []
 -- the first two of these: "5"
 P3 : Row
 unfolding two
-P3 = row (cleaned two f½ false 6) (refusal 5)
+P3 = row (cleaned two f½ false 6) (refusal TooFewKept)
 
 -- R at length 9; 20; -0.5: "(8,1) edge 1 fraction 0.5; edge 3 fraction 1; 9". At 20 R is closed, so the direction is that of its first and last edge together.
 P4 : Row
@@ -191,7 +194,7 @@ unfolding R vector
 P4 =
     row
     (atLengthAsked R f0·001 f9 ∷ atLengthAsked R f0·001 f20 ∷ atLengthAsked R f0·001 (neg f½) ∷ [])
-    (result (station (point f8 f1) (vector f0 f1) 1 f½) ∷ result (station (point f0 f0) (vector (ofBits binary64 0x3fe6a09e667f3bcc) (ofBits binary64 0xbfe6a09e667f3bcc)) 3 f1) ∷ refusal 9 ∷ [])
+    (result (station (point f8 f1) (vector f0 f1) 1 f½) ∷ result (station (point f0 f0) (vector (ofBits binary64 0x3fe6a09e667f3bcc) (ofBits binary64 0xbfe6a09e667f3bcc)) 3 f1) ∷ refusal OffCurve ∷ [])
 
 -- R, line from (4,1) along (0,1): "(4,0) to (4,2)"
 P5 : Row
@@ -204,22 +207,21 @@ unfolding R line crossing
 P6 =
     row
     (crossingAsked R f0·001 (line f4 f1 f4 f1) ∷ joinedAsked R f0·001 (line f4 f1 f4 f1) ∷ [])
-    (refusal 8 ∷ result (crossing f0 f0 f8 f2) ∷ [])
+    (refusal NoCrossing ∷ result (crossing f0 f0 f8 f2) ∷ [])
 
--- the test of P7's loop before each of n halvings, and after the last
-tests : ℕ → Ends → Answer (List Bool)
+-- the circle of P5's crossing after at most n halvings: the loop's own test ends it before, or it is made n times
+halvedTimes : ℕ → Answer Inscribed
 unfolding R line
-tests zero e = result (isWide (resolveTol f0·01) f2 e ∷ [])
-tests (suc n) e = halved R (line f4 f0 f0 f2) e >>= λ next. tests n next >>= λ ts. result (isWide (resolveTol f0·01) f2 e ∷ ts)
+halvedTimes n = halving R (line f4 f0 f0 f2) (resolveTol f0·01) f2 n (firstEnds (point f4 f2) (point f4 f0))
 
 -- P5's crossing, general tolerance 0.01: "11 halvings, centre (4, 1.00048828125), radius 0.99951171875, contacts (4,0), (4,2)".
--- The halvings are counted by the loop's own test, which holds before each of them, and no longer after the eleventh.
+-- Eleven halvings give that circle, and ten another: the loop makes eleven.
 P7 : Row
-unfolding R line crossing tests
+unfolding R line crossing halvedTimes
 P7 =
-    row {A = Answer Inscribed × Answer (List Bool)}
-    (fromCrossing R f0·01 (crossing f4 f0 f0 f2), tests 11 (firstEnds (point f4 f2) (point f4 f0)))
-    (result (inscribed (point f4 high) narrow (point f4 f0) (point f4 f2)), result (true ∷ true ∷ true ∷ true ∷ true ∷ true ∷ true ∷ true ∷ true ∷ true ∷ true ∷ false ∷ []))
+    row
+    (fromCrossing R f0·01 (crossing f4 f0 f0 f2) ∷ halvedTimes 11 ∷ halvedTimes 10 ∷ [])
+    (result (inscribed (point f4 high) narrow (point f4 f0) (point f4 f2)) ∷ result (inscribed (point f4 high) narrow (point f4 f0) (point f4 f2)) ∷ result (inscribed (point f4 higher) narrower (point f4 f0) (point f4 f2)) ∷ [])
 
 -- radii 1, 3, 3, 2: "thickest at 2"
 P8 : Row
@@ -228,41 +230,41 @@ P8 = row (tmaxAsked (allNumbers (circle f1 f1 ∷ circle f2 f3 ∷ circle f4 f3 
 
 -- two circles, contact direction (0,2): Lower (1,0); Upper (-1,0): "swapped (product is -0); not"
 P9 : Row
-unfolding pairOfU vector
-P9 = row (upperAsked (Lower (vector f1 f0)) pairOfU 2 ∷ upperAsked (Upper (vector (neg f1) f0)) pairOfU 2 ∷ []) (result true ∷ result false ∷ [])
+unfolding pairOfU swappedOfU vector
+P9 = row (upperStore (Lower (vector f1 f0)) pairOfU 2 ∷ upperStore (Upper (vector (neg f1) f0)) pairOfU 2 ∷ []) (swappedOfU ∷ pairOfU ∷ [])
 
 -- centres (1,0), (5,0): Fwd (1,0); Airflow (1,0): "turned; not"
 P10 : Row
-unfolding onAxis vector
-P10 = row (fwdAsked (Fwd (vector f1 f0)) onAxis 2 ∷ fwdAsked (Airflow (vector f1 f0)) onAxis 2 ∷ []) (result true ∷ result false ∷ [])
+unfolding onAxis turnedOnAxis vector
+P10 = row (fwdStore (Fwd (vector f1 f0)) onAxis 2 ∷ fwdStore (Airflow (vector f1 f0)) onAxis 2 ∷ []) (turnedOnAxis ∷ onAxis ∷ [])
 
 -- U, 0.01, circles centre (4,1), (5,1), radius 1, contacts straight below and above at y 0 and 2, front, limit 1:
 -- "point (0, 1.00048828125), three circles, centre x 2, 4, 5, one unit"
 P11 : Row
-unfolding edgeOfU report circle
+unfolding edgeOfU numbered fitRan circle
 P11 =
     row
-    (fitOf (edgeOfU true) 1)
-    (report (ended (result (point f0 high))) 3 1 (inscribed (point f2 high) narrow (point f2 f0) (point f2 f2) ∷ circle f4 f1 ∷ circle f5 f1 ∷ []))
+    (numbered (fitOf (edgeOfU true) 1))
+    (0, fitRan (ended (result (point f0 high))) 3 1 (inscribed (point f2 high) narrow (point f2 f0) (point f2 f2) ∷ circle f4 f1 ∷ circle f5 f1 ∷ []))
 
 -- "P11 at the back; P11 with limit 0": "20; 14, two circles"
 P12 : Row
-unfolding edgeOfU report circle
+unfolding edgeOfU numbered fitRan circle unused
 P12 =
     row
-    (fitOf (edgeOfU false) 1 ∷ fitOf (edgeOfU true) 0 ∷ [])
-    (report (ended (refusal 20)) 2 0 (circle f4 f1 ∷ circle f5 f1 ∷ unused ∷ []) ∷ report spent 2 0 (circle f4 f1 ∷ circle f5 f1 ∷ unused ∷ []) ∷ [])
+    (numbered (fitOf (edgeOfU false) 1) ∷ numbered (fitOf (edgeOfU true) 0) ∷ [])
+    ((20, fitRan (ended (refusal GapMissed)) 2 0 (circle f4 f1 ∷ circle f5 f1 ∷ unused ∷ [])) ∷ (14, fitRan spent 2 0 (circle f4 f1 ∷ circle f5 f1 ∷ unused ∷ [])) ∷ [])
 
 table : List Row
 unfolding P1 P2 P3 P4 P5 P6 P7 P8 P9 P10 P11 P12
 table = P1 ∷ P2 ∷ P3 ∷ P4 ∷ P5 ∷ P6 ∷ P7 ∷ P8 ∷ P9 ∷ P10 ∷ P11 ∷ P12 ∷ []
 
 rows-hold : Holds table
-unfolding table P1 P2 P3 P4 P5 P6 P7 P8 P9 P10 P11 P12 tests R U four two line crossing vector circle unused pairOfU onAxis edgeOfU report sqrtOf rootOfUnits wholeRoot rootDigits units size span climb odd trailingZeros ofBits ofFields round neg sum add sub mul div lt eq le
-    dotOf normOf difference normalized lineThrough atParam intersectionParam pointsOf plainDist isClosed wholeFrom badNumbers notSpacedFrom sectionEntry keptAfter kept lastOf endsMeet forcedClosed curveOf cleaned
+unfolding table P1 P2 P3 P4 P5 P6 P7 P8 P9 P10 P11 P12 halvedTimes R U four two line crossing vector circle unused pairOfU swappedOfU atX onAxis turnedOnAxis edgeOfU numbered fitRan sqrtOf rootOfUnits wholeRoot rootDigits units size span climb odd trailingZeros ofBits ofFields round neg sum add sub mul div lt eq le
+    dotOf normOf difference normalized lineThrough atParam intersectionParam pointsOf plainDist isClosed lengthsFrom lengthsOf wholeLength badNumbers crowded notRising sectionEntry keptAfter kept lastOf endsMeet forcedClosed curveOf cleaned
     edgesOf edgeHit hitsFrom inserted sortedInto droppedAfter dropped spanOf spanned crossed crossingWith edgeDirection meanDirection vertexDirection atVertex insideEdge atLengthFrom atLength atLengthAsked crossingAsked joinedAsked
-    closestOnAll leastOf leastOfAll nearestOf fractionOn heldPoint measuredTo closestOnEdge lineProjection distOf halved between halving fromLine
-    camberPoint numbersOf circleFrom circlesFrom allNumbers stored badCircle anyBad midPointOf lineNormalized rayNormalized rayProjection atDistance shiftedRay halfwayRay circleOn tryInscribed judged trial
+    closestOnAll leastOf leastOfAll nearestOf fractionOn heldPoint measuredTo closestOnEdge lineProjection distOf movedEnds halved circleBetween halving halvedFrom fromLine
+    camberPoint numbersOf circleFrom circlesFrom allNumbers stored badCircle anyBad midPointOf lineNormalized rayNormalized rayProjection atDistance shiftedRay halfwayRay circleOn tryInscribed judged triedOn trial
     next run whole withRoom afterTrial refineMove measure refineStep tmaxFrom tmax storeEntry tmaxAsked frontAndBack centerDot lessForward dirFwd voteOf votesFrom dirUpper orientEntry fwdAsked upperAsked lastPair middleLine facedLine clipLine endCamberRay
-    gapOf capPoint capIntersection aheadOf turnedTo acrossRay probeLine probed movedPoint afterMove afterRefined afterProbe oneRound onward rounds edgeEntry startOf fitStart fitFrom fitReported fitted fitAfter
+    gapOf capPoint capIntersection aheadOf turnedTo acrossRay probeLine probed movedPoint afterMove afterRefined afterProbe oneRound onward rounds edgeEntry startAtEnd fitStart fitFrom fitReported fitted fitAfter
 rows-hold = (refl, (refl, (refl, (refl, (refl, (refl, (refl, (refl, (refl, (refl, (refl, (refl, tt))))))))))))

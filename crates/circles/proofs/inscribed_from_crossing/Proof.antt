@@ -1,39 +1,35 @@
--- `inscribed_from_crossing` makes the entry tests first, with the line among them. Assumes nothing.
+-- `inscribed_from_crossing` makes the entry tests of its line first. Assumes nothing.
 use borrow.Author.Needs.{needs}
 use Rattle.circles.specs.Asked.{fromCrossingAsked}
 use Rattle.circles.proofs.Laws.{entered-points}
 use Rattle.circles.proofs.inscribed_from_crossing.Statement.{statement}
 use Rattle.circles.proofs.inscribed_from_crossing.Tie as tie
 
-is-finite-line-requires : tie.Need-is-finite-line-requires
-is-finite-line-requires c κs = search needs
-
-entered-requires : tie.Need-entered-requires
-entered-requires c κs = search needs
+line-entry-requires : tie.Need-line-entry-requires
+line-entry-requires c κs = search needs
 
 enum-told : tie.Need-enum-told
 enum-told c = search needs
 
 from-crossing-requires : tie.Need-from-crossing-requires
-from-crossing-requires c κs = entered-points _ _ _ _ _ (c .before .before .entered .ensures) (c .enum-told .given .1)
+from-crossing-requires c κs = entered-points _ _ _ _ _ (c .before .before .line-entry .ensures) (c .enum-told .given .1)
 
 enum-known-r : tie.Need-enum-known-r
 enum-known-r c = search needs
 
 returns : tie.Need-returns
 unfolding fromCrossingAsked
-returns c = rw (← (rw (c .before .enum-told .given .1, c .before .before .before .before .is-finite-line .ensures) at (c .before .before .before .entered .ensures))) (c .from-crossing .ensures)
+returns c = rw (← (rw (c .before .enum-told .given .1) at (c .before .before .before .line-entry .ensures))) (c .from-crossing .ensures)
 
 returns-2 : tie.Need-returns-2
 unfolding fromCrossingAsked
-returns-2 c = rw (← (rw (c .before .r .given .1, c .before .before .before .before .is-finite-line .ensures) at (c .before .before .before .entered .ensures)))
+returns-2 c = rw (← (rw (c .before .r .given .1) at (c .before .before .before .line-entry .ensures)))
 
 pub inscribed-from-crossing-spec : {M : Type 1} → statement M
 inscribed-from-crossing-spec =
     tie.close
     (tie.spec
-    is-finite-line-requires
-    entered-requires
+    line-entry-requires
     enum-told
     from-crossing-requires
     enum-known-r

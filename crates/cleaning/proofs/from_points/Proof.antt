@@ -5,7 +5,7 @@ use native.Mathlib.Omega.{arith}
 use borrow.Author.Tests.{lt-ltb, le-ltb}
 use lib.ListN.{length}
 use Rattle.cleaning.proofs.Made.{made-refused}
-use Rattle.cleaning.specs.Cleaning.{cleaned}
+use Rattle.cleaning.specs.Cleaning.{mostCleaned, cleaned}
 use Rattle.curve2.proofs.Laws.{count-even, count-least}
 use Rattle.errors.proofs.Laws.{told}
 use Rattle.cleaning.proofs.from_points.Statement.{statement}
@@ -40,7 +40,7 @@ unfolding cleaned
 returns-4 c = made-refused _ _ _ (rw (told (c .before .before .before .before .before .before .is-bad-count .ensures) (c .before .before .before .before .before .if1 .left), told (c .before .before .before .before .has-bad-number .ensures) (c .before .before .before .if2 .left), told (c .before .before .is-bad-tolerance .ensures) (c .before .if3 .left), lt-ltb (length (c .before .before .before .before .before .before .before .before .before .args .out .now)) (length (c .before .before .before .before .before .before .before .before .before .args .points .now) + 2) (omega arith)))
 
 clean-points-requires : tie.Need-clean-points-requires
-clean-points-requires c κs = let e = told (c .before .before .before .before .before .before .before .is-bad-count .ensures) (c .before .before .before .before .before .before .if1 .left) in (count-even 4095 _ e, (omega (arith, count-least 4095 (length (c .before .before .before .before .before .before .before .before .before .before .args .points .now)) e), c .before .if4 .left))
+clean-points-requires c κs = let e = told (c .before .before .before .before .before .before .before .is-bad-count .ensures) (c .before .before .before .before .before .before .if1 .left) in (count-even mostCleaned _ e, (omega (arith, count-least mostCleaned (length (c .before .before .before .before .before .before .before .before .before .before .args .points .now)) e), c .before .if4 .left))
 
 same-length : tie.Need-same-length
 same-length c = search needs

@@ -1,5 +1,5 @@
 -- `entered` makes the entry tests in number order. Assumes nothing.
-use Rattle.edges.specs.Fit.{edgeEntry}
+use Rattle.edges.specs.Edges.{edgeEntry}
 use borrow.Author.Needs.{needs}
 use Rattle.edges.proofs.entered.Statement.{statement}
 use Rattle.edges.proofs.entered.Tie as tie

@@ -2,7 +2,7 @@
 use mathlib.Core.Path.{sym}
 use native.Mathlib.Omega.{arith}
 use Rattle.errors.proofs.Laws.{told}
-use Rattle.edges.specs.Fit.{openAtEnd}
+use Rattle.edges.specs.Edges.{openAtEnd}
 use Rattle.edges.proofs.EntryLaws.{entry-points, entry-count}
 use borrow.Author.Needs.{needs}
 use Rattle.edges.proofs.is_open_at_end.Statement.{statement}

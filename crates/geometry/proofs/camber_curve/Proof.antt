@@ -2,7 +2,7 @@
 use native.Mathlib.Omega.{arith}
 use Rattle.cleaning.proofs.Made.{made-refused}
 use Rattle.geometry.specs.Camber.{camberCurve}
-use Rattle.centers.proofs.Laws.{camber-passed}
+use Rattle.geometry.proofs.CentersLaws.{camber-passed}
 use borrow.Author.Needs.{needs}
 use Rattle.geometry.proofs.camber_curve.Statement.{statement}
 use Rattle.geometry.proofs.camber_curve.Tie as tie

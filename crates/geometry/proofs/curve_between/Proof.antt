@@ -1,7 +1,7 @@
 -- `curve_between` cleans the centres, put between the end points. Assumes nothing.
 use native.Mathlib.Omega.{arith}
 use mathlib.Core.Path.{sym, ap}
-use Rattle.keeping.specs.Keeping.{Held}
+use Rattle.cleaning.specs.Code.{Held}
 use Rattle.geometry.proofs.Laws.{between-points, between-long}
 use borrow.Author.Needs.{needs}
 use Rattle.geometry.proofs.curve_between.Statement.{statement}

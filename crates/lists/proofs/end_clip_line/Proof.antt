@@ -1,6 +1,6 @@
 -- `end_clip_line` makes the entry tests first, then asks 7. Assumes nothing.
 use native.Mathlib.Omega.{arith}
-use Rattle.ends.proofs.Laws.{too-few}
+use Rattle.lists.proofs.ends.Laws.{too-few}
 use Rattle.lists.specs.Asked.{clipAsked}
 use Rattle.lists.proofs.Laws.{store-passed}
 use borrow.Author.Needs.{needs}

@@ -1,5 +1,5 @@
 -- `reverse_order` turns order and contacts of a store that passed the entry tests. Assumes nothing.
-use Rattle.turning.specs.Turned.{turned}
+use Rattle.inscribed.specs.Lists.{turned}
 use Rattle.lists.proofs.Laws.{store-passed, changed-passed, changed-refused}
 use borrow.Author.Needs.{needs}
 use Rattle.lists.proofs.reverse_order.Statement.{statement}

@@ -5,16 +5,16 @@ use lib.Ieee.{Float}
 use lib.Ieee.Scale.{finite}
 use Rattle.errors.specs.Answer.{Answer, refusal, watched}
 use Rattle.errors.proofs.Laws.{told}
-use Rattle.digits.specs.Sqrt.{sqrtOf}
-use Rattle.root.specs.Asked.{rootAsked}
+use Rattle.root.specs.Sqrt.{sqrtOf, rootAsked}
 use borrow.Author.Needs.{needs}
 use Rattle.root.proofs.sqrt.Statement.{statement}
 use Rattle.root.proofs.sqrt.Tie as tie
+use Rattle.errors.specs.declared.Refusal.the-variants.{BadNumber}
 
 answered : (x : Float) (r : Answer Float) → finite x ≡ true → r ≡ watched (sqrtOf x) → r ≡ rootAsked x
 answered x r h e = rw h e
 
-refused : (x : Float) → finite x ≡ false → refusal 2 ≡ rootAsked x
+refused : (x : Float) → finite x ≡ false → refusal BadNumber ≡ rootAsked x
 refused x h = rw h
 
 is-finite-requires : tie.Need-is-finite-requires

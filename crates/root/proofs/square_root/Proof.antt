@@ -3,10 +3,10 @@ use mathlib.Core.Path.{_∙_}
 use native.Mathlib.Omega.{arith}
 use lib.Bits.{mask-lt}
 use lib.Ieee.{binary64, toBits}
-use Rattle.digits.proofs.Cases.{root-nan}
-use Rattle.digits.proofs.Fields.{normal-plus, square-high, same-number}
-use Rattle.digits.proofs.Scaling.{rescaled}
-use Rattle.digits.proofs.Rounded.{rounded}
+use Rattle.root.proofs.digits.Cases.{root-nan}
+use Rattle.root.proofs.digits.Fields.{normal-plus, square-high, same-number}
+use Rattle.root.proofs.digits.Scaling.{rescaled}
+use Rattle.root.proofs.digits.Rounded.{rounded}
 use borrow.Author.Needs.{needs}
 use Rattle.root.proofs.square_root.Statement.{statement}
 use Rattle.root.proofs.square_root.Tie as tie

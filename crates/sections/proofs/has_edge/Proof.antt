@@ -3,7 +3,7 @@ use borrow.Author.Needs.{needs}
 use mathlib.Core.Path.{sym}
 use native.Mathlib.Omega.{arith}
 use borrow.Author.Tests.{le-ltb}
-use Rattle.vertices.specs.Stations.{lastVertex}
+use Rattle.curve2.specs.Stations.{lastVertex}
 use Rattle.sections.proofs.has_edge.Statement.{statement}
 use Rattle.sections.proofs.has_edge.Tie as tie
 

@@ -6,17 +6,17 @@ use borrow.Author.Needs.{needs}
 use lib.ListN.{length}
 use Rattle.camber.proofs.MarchFrom.{Waits, waits-start, waits-ends, waits-grown, waits-ready, ready-ends, ready-next, spent-unfinished, refused-unfinished, finished-listed}
 use Rattle.camber.specs.March.{marchRun}
-use Rattle.advance.specs.Outcome.{listedAdvanced}
-use Rattle.moves.specs.Report.{reported}
-use Rattle.moves.specs.Machine.{refining}
-use Rattle.runs.specs.Run.{under}
+use Rattle.advance.specs.Code.{listedAdvanced}
+use Rattle.refine.specs.Report.{reported}
+use Rattle.refine.specs.Machine.{refining}
+use Rattle.runs.specs.Run.{underLimit}
 use Rattle.camber.proofs.march.march_from.Statement.{statement}
 use Rattle.camber.proofs.march.march_from.Tie as tie
 
 -- `march_from` is the march from its first circle on. Assumes nothing.
 
 abbrev Inv-loop : tie.InvT-loop
-Inv-loop section tol store₀ slots limit units next₀ n₀ u₀ store next n u = (length store ≡ length store₀) × Waits section tol slots limit store₀ (reported store₀ (marchRun section tol slots (under limit) (refining [] (next₀ ∷ [])) units)) store n next u
+Inv-loop section tol store₀ slots limit units next₀ n₀ u₀ store next n u = (length store ≡ length store₀) × Waits section tol slots limit store₀ (reported store₀ (marchRun section tol slots (underLimit limit) (refining [] (next₀ ∷ [])) units)) store n next u
 
 abbrev μ-loop : tie.MeasureT-loop
 μ-loop section tol store₀ slots limit units next₀ n₀ u₀ store next n u = slots - n

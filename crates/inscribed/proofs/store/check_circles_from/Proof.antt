@@ -1,7 +1,7 @@
 -- `check_circles_from` makes the tests in number order. Assumes nothing.
 use borrow.Author.Needs.{needs}
 use borrow.Author.Tests.{lt-ltb, le-ltb}
-use Rattle.inscribed.specs.Parts.{circlesEntry}
+use Rattle.inscribed.specs.Store.{circlesEntry}
 use Rattle.errors.proofs.Laws.{told}
 use Rattle.inscribed.proofs.store.check_circles_from.Statement.{statement}
 use Rattle.inscribed.proofs.store.check_circles_from.Tie as tie

@@ -15,14 +15,14 @@ Inv-loop store count n k₀ k = (k ≤ n) × (anyBad (circlesFrom store k (n - k
 abbrev μ-loop : tie.MeasureT-loop
 μ-loop store count n k₀ k = n - k
 
-slots-up-to-requires : tie.Need-slots-up-to-requires Inv-loop μ-loop
-slots-up-to-requires c κs = search needs
+slots-in-requires : tie.Need-slots-in-requires Inv-loop μ-loop
+slots-in-requires c κs = search needs
 
 least-requires : tie.Need-least-requires Inv-loop μ-loop
 least-requires c κs = search needs
 
 loop-holds : tie.Need-loop-holds Inv-loop μ-loop
-loop-holds c = (omega arith, circles-start _ _ _ (rw (c .before .slots-up-to .ensures) at (c .least .ensures)))
+loop-holds c = (omega arith, circles-start _ _ _ (rw (c .before .slots-in .ensures) at (c .least .ensures)))
 
 circle-at-requires : tie.Need-circle-at-requires Inv-loop μ-loop
 circle-at-requires c κs = omega arith
@@ -51,7 +51,7 @@ has-bad-circle-spec =
     (tie.spec
     Inv-loop
     μ-loop
-    slots-up-to-requires
+    slots-in-requires
     least-requires
     loop-holds
     circle-at-requires

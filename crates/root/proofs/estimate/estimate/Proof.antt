@@ -3,7 +3,7 @@ use Prim.Native.Nat.{ℕ, _-_, _^_, _<_}
 use native.Mathlib.Omega.{arith}
 use lib.Bits.{bitAnd, bitXor, mask-lt, xor-lt, or-shifted-r}
 use lib.Ieee.{binary64, toBits}
-use Rattle.digits.proofs.Fields.{no-nan, same-number}
+use Rattle.root.proofs.digits.Fields.{no-nan, same-number}
 use borrow.Author.Needs.{needs}
 use Rattle.root.proofs.estimate.estimate.Statement.{statement}
 use Rattle.root.proofs.estimate.estimate.Tie as tie

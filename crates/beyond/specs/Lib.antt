@@ -1,2 +1,0 @@
--- What lies beyond the end of the circles that is meant.
-pub mod Beyond

@@ -1,2 +1,0 @@
--- The entry tests of a camber curve.
-pub mod Centers

@@ -1,2 +1,0 @@
--- The checks of orient.rs by a vector.
-pub mod Checks

@@ -1,2 +1,0 @@
--- The nearest point of a section to a point.
-pub mod Nearest

@@ -1,2 +1,0 @@
--- No refusal of a step is numbered 14.
-pub mod Unspent

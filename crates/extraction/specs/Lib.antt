@@ -1,2 +1,0 @@
--- Extraction: a march in each direction from a reference line.
-pub mod Extraction

@@ -1,2 +1,0 @@
--- The fit of what was tested.
-pub mod Fitted

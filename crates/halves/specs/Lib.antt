@@ -1,2 +1,0 @@
--- The second half of an extraction.
-pub mod Halves

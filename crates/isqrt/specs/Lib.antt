@@ -1,2 +1,0 @@
--- Roots of whole numbers.
-pub mod Whole

@@ -1,2 +1,0 @@
--- What the joined crossing keeps of the hits.
-pub mod Fractions

@@ -1,3 +1,0 @@
--- Laws that belong to no one function: of points and their numbers, and of keeping point by point.
-pub mod Numbers
-pub mod Keeping

@@ -1,2 +1,0 @@
--- What is told of a list of circles.
-pub mod Lists

@@ -1,2 +1,0 @@
--- The open end of a section, where the entry tests were passed.
-pub mod Openings

@@ -1,2 +1,0 @@
--- The probe into the gap of an open section.
-pub mod Probe

@@ -1,0 +1,86 @@
+// The crossings of a line with a section whose entry tests passed, and the section's nearest point to a point.
+use crate::Crossing;
+use crate::CrossingAnswer;
+use crate::NearestAnswer;
+use crate::closest;
+use crate::hits;
+use crate::hits::Seen;
+use crate::hits::SeenAnswer;
+use crate::joined;
+use crate::joined::CountAnswer;
+use crate::joined::MOST_EDGES;
+use line2::Line2;
+use line2::LineAnswer;
+use points::Point2;
+use points::PointAnswer;
+use points::segment2::EdgePointAnswer;
+ghost use mathlib.Core.Path.{_≡_};
+ghost use mathlib.Core.Option.{some};
+ghost use Rattle.curve2.specs.Entry.{HasPoints};
+ghost use Rattle.queries.specs.Crossing.{crossed, crossingOf, joinedCrossingOf, listedCrossing};
+ghost use Rattle.queries.specs.Nearest.{nearestOf, listedNearest};
+
+// The crossing from the fraction t0 of a line to t1.
+fn spanned(line: Line2, t0: f64, t1: f64) -> CrossingAnswer
+    ensures { λ r. ⌜ listedCrossing r ≡ crossed line (some (record { t0 = t0; t1 = t1 })) ⌝ }
+{
+    match line.at(t0) {
+        PointAnswer::Value(a) => match line.at(t1) {
+            PointAnswer::Value(b) => match Line2::from_points(a, b) {
+                LineAnswer::Value(k) => CrossingAnswer::Value(Crossing { line: k }),
+                LineAnswer::Refused(r) => CrossingAnswer::Refused(r),
+            },
+            PointAnswer::Refused(r) => CrossingAnswer::Refused(r),
+        },
+        PointAnswer::Refused(r) => CrossingAnswer::Refused(r),
+    }
+}
+
+// The crossing of a line with exactly two hits, from the lesser fraction to the greater.
+pub fn crossing_line(section: &[f64], line: Line2) -> CrossingAnswer
+    requires { ⌜ HasPoints (now section) ⌝ }
+    ensures { λ r. ⌜ listedCrossing r ≡ crossingOf (now (section .entry)) line ⌝ }
+{
+    match hits::seen_hits(section, line) {
+        SeenAnswer::Value(seen) => match seen {
+            Seen::Pair(s, t) => {
+                if t < s {
+                    return spanned(line, t, s);
+                }
+                spanned(line, s, t)
+            }
+            Seen::Nothing => CrossingAnswer::Missed,
+            Seen::One(_) => CrossingAnswer::Missed,
+            Seen::Many => CrossingAnswer::Missed,
+        },
+        SeenAnswer::Refused(r) => CrossingAnswer::Refused(r),
+    }
+}
+
+// The crossing of a line with exactly two hits, where hits nearer than 1e-8 to the last kept one are dropped.
+pub fn joined_crossing(section: &[f64], line: Line2) -> CrossingAnswer
+    requires { ⌜ HasPoints (now section) ⌝ }
+    ensures { λ r. ⌜ listedCrossing r ≡ joinedCrossingOf (now (section .entry)) line ⌝ }
+{
+    let mut ts = [0.0; MOST_EDGES];
+    match joined::sorted_hits(section, line, &mut ts) {
+        CountAnswer::Value(n) => match joined::kept_hits(&ts, n) {
+            Seen::Pair(s, t) => spanned(line, s, t),
+            Seen::Nothing => CrossingAnswer::Missed,
+            Seen::One(_) => CrossingAnswer::Missed,
+            Seen::Many => CrossingAnswer::Missed,
+        },
+        CountAnswer::Refused(r) => CrossingAnswer::Refused(r),
+    }
+}
+
+// The nearest point of a section; the lower edge where two are as near.
+pub fn closest_point(section: &[f64], p: Point2) -> NearestAnswer
+    requires { ⌜ HasPoints (now section) ⌝ }
+    ensures { λ r. ⌜ listedNearest r ≡ nearestOf (now (section .entry)) p ⌝ }
+{
+    match closest::closest_at(section, 0, p) {
+        EdgePointAnswer::Value(q) => closest::closest_after(section, p, q),
+        EdgePointAnswer::Refused(r) => NearestAnswer::Refused(r),
+    }
+}

@@ -1,2 +1,0 @@
--- A section's points backwards.
-pub mod Reversed

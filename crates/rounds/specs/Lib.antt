@@ -1,2 +1,0 @@
--- The rounds of a fit into the gap of a section.
-pub mod Rounds

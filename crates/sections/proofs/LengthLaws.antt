@@ -1,0 +1,78 @@
+-- The passes over the edges by length along: each way through a body keeps that what is left decides. Assumes nothing.
+use mathlib.Core.Path.{_≡_, refl, sym, ap, _∙_}
+use mathlib.Core.Bool.{true, false}
+use mathlib.Core.List.{List, [], _∷_}
+use Prim.Native.Nat.{ℕ, _+_, _*_, _<_}
+use native.Mathlib.Nat.{add-zero}
+use native.Mathlib.Numerals.{add-one}
+use native.Mathlib.Omega.{arith}
+use lib.ListN.{getD, drop}
+use lib.Seq.{drop-drop, getD-drop}
+use lib.Ieee.{Float, nan, lt, eq}
+use Rattle.errors.specs.Answer.{Answer, watched}
+use Rattle.points.specs.Numbers.{_+f_, _-f_, _*f_}
+use Rattle.points.specs.declared.Point2.{Point2}
+use Rattle.curve2.specs.Section.{pointsOf, pointAt, plainDist, lengthsFrom, lengthsOf}
+use Rattle.curve2.specs.Entry.{HasPoints}
+use Rattle.curve2.proofs.Laws.{points-step, points-end}
+use Rattle.curve2.specs.Stations.{vertex, lastVertex, atVertex}
+use Rattle.sections.specs.Places.{insideEdge, atLengthFrom, lengthAlong}
+use Rattle.curve2.specs.declared.CurveStation2.{CurveStation2}
+
+-- where the next vertex' numbers start
+next-vertex : (i : ℕ) → 2 * (i + 1) ≡ 2 * i + 2
+next-vertex i = omega arith
+
+-- the ends of edge i, and the points after it
+edge-step : (ns : List Float) (i : ℕ) → i < lastVertex ns → pointsOf (drop (2 * i) ns) ≡ pointAt ns (2 * i) ∷ (pointAt ns (2 * i + 2) ∷ pointsOf (drop (2 * i + 2 + 2) ns))
+edge-step ns i h = rw (points-step ns (2 * i) (omega arith), points-step ns (2 * i + 2) (omega arith))
+
+-- ---- the station at a length
+
+module _ (ns : List Float) (tol l : Float) (i : ℕ) (m : Float) (whole : Answer CurveStation2) (inv : atLengthFrom ns tol l i m (pointsOf (drop (2 * i) ns)) ≡ whole) where
+  module _ (fits : i < lastVertex ns) where
+    pub at-exact : eq m l ≡ true → atVertex ns tol i ≡ whole
+    unfolding atLengthFrom
+    at-exact e = rw (edge-step ns i fits, e) at inv
+
+    module _ (off : eq m l ≡ false) (d : Float) (is : d ≡ plainDist (pointAt ns (2 * i + 2)) (pointAt ns (2 * i))) where
+      pub at-inside : lt l (d +f m) ≡ true → insideEdge i (vertex ns i) (vertex ns (i + 1)) m (d +f m) l ≡ whole
+      unfolding atLengthFrom
+      at-inside e = rw (next-vertex i) (rw (edge-step ns i fits, off, ← is, e) at inv)
+
+      pub at-later : lt l (d +f m) ≡ false → atLengthFrom ns tol l (i + 1) (d +f m) (pointsOf (drop (2 * (i + 1)) ns)) ≡ whole
+      unfolding atLengthFrom
+      at-later e = rw (next-vertex i, add-one i, points-step ns (2 * i + 2) (omega arith)) (rw (edge-step ns i fits, off, ← is, e) at inv)
+
+  pub at-last : HasPoints ns → i ≡ lastVertex ns → atVertex ns tol i ≡ whole
+  unfolding atLengthFrom
+  at-last h e = rw (points-step ns (2 * i) (omega arith), points-end ns (2 * i + 2) (omega arith)) at inv
+
+-- ---- the length along
+
+first-length : (l : Float) (p : Point2) (ps : List Point2) → getD (lengthsFrom l (p ∷ ps)) 0 nan ≡ l
+unfolding lengthsFrom
+first-length l p [] = refl
+first-length l p (q ∷ ps) = refl
+
+module _ (ns : List Float) (i : ℕ) (m : Float) (inv : drop i (lengthsOf (pointsOf ns)) ≡ lengthsFrom m (pointsOf (drop (2 * i) ns))) (fits : i < lastVertex ns) (d : Float)
+    (is : d ≡ plainDist (pointAt ns (2 * i + 2)) (pointAt ns (2 * i))) where
+  abbrev ls : List Float
+  ls = lengthsOf (pointsOf ns)
+
+  here : drop i ls ≡ m ∷ lengthsFrom (d +f m) (pointsOf (drop (2 * i + 2) ns))
+  unfolding lengthsFrom
+  here = rw (points-step ns (2 * i + 2) (omega arith)) (rw (edge-step ns i fits, ← is) at inv)
+
+  pub lengths-step : drop (i + 1) ls ≡ lengthsFrom (d +f m) (pointsOf (drop (2 * (i + 1)) ns))
+  lengths-step = rw (next-vertex i) (sym (drop-drop 1 i ls) ∙ ap (λ (x : List Float). drop 1 x) here)
+
+  length-here : getD ls i nan ≡ m
+  length-here = (rw (add-zero i) at (sym (getD-drop i ls 0 nan))) ∙ rw here
+
+  length-next : getD ls (i + 1) nan ≡ d +f m
+  length-next = sym (getD-drop i ls 1 nan) ∙ rw (here, points-step ns (2 * i + 2) (omega arith)) (first-length (d +f m) _ _)
+
+  pub length-told : (k : ℕ) (f : Float) → i ≡ k → watched (m +f (d +f m -f m) *f f) ≡ lengthAlong ns k f
+  unfolding lengthAlong
+  length-told k f e = rw (← e, length-here, length-next)

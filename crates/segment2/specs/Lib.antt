@@ -1,2 +1,0 @@
--- One edge of a section: what each step gives, bit for bit.
-pub mod Closest

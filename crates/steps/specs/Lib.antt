@@ -1,2 +1,0 @@
--- The steps of one advance, and the crossing that one of them finds.
-pub mod Steps

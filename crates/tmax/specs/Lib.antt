@@ -1,2 +1,0 @@
--- The check by the greatest radius.
-pub mod Tmax

@@ -1,3 +1,0 @@
--- The trial between two circles.
-pub mod Trial
-pub mod Tried

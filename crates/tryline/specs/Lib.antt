@@ -1,2 +1,0 @@
--- The circle on a line.
-pub mod TryInscribed

@@ -1,2 +1,0 @@
--- Stations, and those at the vertices of a section.
-pub mod Stations
