@@ -92,7 +92,7 @@ pub struct Part<'a> {
 }
 
 // Whether the circles from a place on can be handed out.
-fn check_circles_from(store: &[f64], count: usize, place: usize) -> Entry
+pub fn circles_entry(store: &[f64], count: usize, place: usize) -> Entry
     ensures { λ r. ⌜ listedEntry r ≡ circlesEntry (now (store .entry)) count place ⌝ }
 {
     if has_bad_circle(store, count) {
@@ -126,7 +126,7 @@ fn part_of(store: &[f64], count: usize, place: usize, entry: Entry) -> &[f64]
 pub fn circles_from<'a>(store: &'a [f64], count: usize, place: usize) -> Part<'a>
     ensures { λ r. ⌜ (now (r .numbers) ≡ numbersFrom (now (store .entry)) count place) × (listedEntry (r .entry) ≡ circlesEntry (now (store .entry)) count place) ⌝ }
 {
-    let entry = check_circles_from(store, count, place);
+    let entry = circles_entry(store, count, place);
     let numbers = part_of(store, count, place, entry);
     Part { numbers, entry }
 }

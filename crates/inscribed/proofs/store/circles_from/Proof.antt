@@ -1,4 +1,4 @@
--- `circles_from` meets its contract: a walk of its code by hand. `check_circles_from` and `part_of` are called on what was passed, and the struct is made of the two results as they were returned.
+-- `circles_from` meets its contract: a walk of its code by hand. `circles_entry` and `part_of` are called on what was passed, and the struct is made of the two results as they were returned.
 -- A slice is Copy: what it owns is had again for each call, and once more for the exit. Of the entry its relation alone is kept, which makes what it owns. Assumes nothing.
 use mathlib.Core.Path.{_≡_, refl}
 use Prim.Native.Nat.{ℕ, _<_, _^_}
@@ -50,10 +50,10 @@ use Rattle.inscribed.specs.Store.{circlesEntry, numbersFrom}
 use Rattle.inscribed.specs.declared.store.Part.{Part}
 use Rattle.inscribed.proofs.store.Part as T
 use Rattle.inscribed.proofs.store.Part.Laws as T′
-use Rattle.inscribed.proofs.store.check_circles_from as tested
-use Rattle.inscribed.proofs.store.check_circles_from.Symbol as tested-def
-use Rattle.inscribed.proofs.store.check_circles_from.Symbol.{name as #tested}
-use Rattle.inscribed.proofs.store.check_circles_from.Met as tested-thm
+use Rattle.inscribed.proofs.store.circles_entry as tested
+use Rattle.inscribed.proofs.store.circles_entry.Symbol as tested-def
+use Rattle.inscribed.proofs.store.circles_entry.Symbol.{name as #tested}
+use Rattle.inscribed.proofs.store.circles_entry.Met as tested-thm
 use Rattle.inscribed.proofs.store.part_of as cut
 use Rattle.inscribed.proofs.store.part_of.Symbol as cut-def
 use Rattle.inscribed.proofs.store.part_of.Symbol.{name as #cut}
@@ -110,7 +110,7 @@ module _ {M : Type 1} (𝓤 : URA M) (H : Heap 𝓤) (A : Atoms 𝓤) (W : Given
   abbrev Post : Val → SProp 𝓤
   Post = walkOf 𝓤 H A f.ended stayed (f.clauses 𝓤 H A mem run) .post (((κ, tt), (q, tt), tt, a, vals), tt)
 
-  -- the call of `check_circles_from`
+  -- the call of `circles_entry`
   abbrev to-tested : Tested 𝓤 H A mem run .Ghost
   to-tested = (((κ, tt), (q, tt), tt, a, vals), tt)
 
@@ -207,5 +207,5 @@ circles-from-spec 𝓤 H 𝓜 𝓖 𝓡 =
     entered 𝓤 H (tripleOf 𝓤 H (𝓖 .A) f.signature (f.spec 𝓤 H (𝓖 .A) (𝓜 .mem) (𝓡 .run)))
     (tables 𝓤 H 𝓜 𝓡 code.env .C) (tables 𝓤 H 𝓜 𝓡 code.env .Λ) #circles-from code.function (code.unfolded 𝓤 H 𝓜 𝓡)
     (from-meets 𝓤 H (𝓖 .A) (givenOf 𝓤 H 𝓜 𝓖) (𝓜 .mem) (𝓡 .run) (tablesOf 𝓤 H 𝓜 (tables 𝓤 H 𝓜 𝓡 code.env))
-    (cited 𝓤 H (Tested 𝓤 H (𝓖 .A) (𝓜 .mem) (𝓡 .run)) 𝓜 𝓡 code.env #tested tested-def.routine code.calls-inscribed·store·check-circles-from (tested-thm.met 𝓤 H 𝓜 𝓖 𝓡))
+    (cited 𝓤 H (Tested 𝓤 H (𝓖 .A) (𝓜 .mem) (𝓡 .run)) 𝓜 𝓡 code.env #tested tested-def.routine code.calls-inscribed·store·circles-entry (tested-thm.met 𝓤 H 𝓜 𝓖 𝓡))
     (cited 𝓤 H (Cut 𝓤 H (𝓖 .A) (𝓜 .mem) (𝓡 .run)) 𝓜 𝓡 code.env #cut cut-def.routine code.calls-inscribed·store·part-of (cut-thm.met 𝓤 H 𝓜 𝓖 𝓡)))

@@ -1,10 +1,10 @@
--- `check_circles_from` makes the tests in number order. Assumes nothing.
+-- `circles_entry` makes the tests in number order. Assumes nothing.
 use borrow.Author.Needs.{needs}
 use borrow.Author.Tests.{lt-ltb, le-ltb}
 use Rattle.inscribed.specs.Store.{circlesEntry}
 use Rattle.errors.proofs.Laws.{told}
-use Rattle.inscribed.proofs.store.check_circles_from.Statement.{statement}
-use Rattle.inscribed.proofs.store.check_circles_from.Tie as tie
+use Rattle.inscribed.proofs.store.circles_entry.Statement.{statement}
+use Rattle.inscribed.proofs.store.circles_entry.Tie as tie
 
 has-bad-circle-requires : tie.Need-has-bad-circle-requires
 has-bad-circle-requires c κs = search needs
@@ -28,8 +28,8 @@ returns-4 : tie.Need-returns-4
 unfolding circlesEntry
 returns-4 c = rw (told (c .before .before .before .before .has-bad-circle .ensures) (c .before .before .before .if1 .left), told (c .before .before .is-bad-store-count .ensures) (c .before .if2 .left), le-ltb _ _ (c .if3 .left))
 
-pub check-circles-from-spec : {M : Type 1} → statement M
-check-circles-from-spec =
+pub circles-entry-spec : {M : Type 1} → statement M
+circles-entry-spec =
     tie.close
     (tie.spec
     has-bad-circle-requires

@@ -1,0 +1,2 @@
+-- What the C interface returns and writes.
+pub mod Told

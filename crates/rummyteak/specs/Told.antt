@@ -1,0 +1,120 @@
+-- What a call by the C interface returns, and what it leaves behind the references that it is lent: its values where there is a result, else what stood there. Assumes nothing.
+use mathlib.Core.Bool.{Bool, true, false}
+use mathlib.Core.List.{List, [], _∷_}
+use mathlib.Core.Option.{Option, some, none}
+use Prim.Native.Nat.{ℕ, _-_, _*_}
+use lib.Ieee.{Float}
+use Rattle.errors.specs.Answer.{Answer, result, refusal, numberOf, _>>=_}
+use Rattle.points.specs.declared.Point2.{Point2}
+use Rattle.line2.specs.declared.Line2.{Line2}
+use Rattle.curve2.specs.declared.CurveStation2.{CurveStation2}
+use Rattle.cleaning.specs.declared.Curve.{Curve}
+use Rattle.queries.specs.declared.Crossing.{Crossing}
+use Rattle.runs.specs.Run.{Ending, ended, spent, unfinished}
+use Rattle.inscribed.specs.Store.{width, numbersOf, circlesEntry}
+use Rattle.inscribed.specs.declared.Inscribed.{Inscribed}
+use Rattle.inscribed.specs.declared.FrontAndBack.{FrontAndBack}
+use Rattle.refine.specs.Report.{Called, refusedOnEntry, ran, endingNumber}
+
+-- the number that is returned, 0 for a result, and what is left behind the references
+pub record Told (A : Type 0) : Type 0 where
+  pub number : ℕ
+  pub left : A
+
+-- f of a result is written; a refusal leaves what stood there before
+unfoldable pub toldAs : {A B : Type 0} → (A → B) → B → Answer A → Told B
+toldAs f before (result a) = record { number = 0; left = f a }
+toldAs f before (refusal r) = record { number = numberOf r; left = before }
+
+-- a result is written as it is
+abbrev pub told : {A : Type 0} → A → Answer A → Told A
+told before answer = toldAs (λ a. a) before answer
+
+-- ---- what is handed in
+
+-- a line by its origin and its direction
+abbrev pub givenLine : Float → Float → Float → Float → Line2
+givenLine ox oy dx dy = record { origin = record { x = ox; y = oy }; direction = record { x = dx; y = dy } }
+
+-- ---- what is written
+
+abbrev pub lineNumbers : Line2 → List Float
+lineNumbers l = l .origin .x ∷ l .origin .y ∷ l .direction .x ∷ l .direction .y ∷ []
+
+abbrev pub crossingNumbers : Crossing → List Float
+crossingNumbers c = lineNumbers (c .line)
+
+-- a station's numbers, point, direction and fraction, and its edge
+pub record StationCells : Type 0 where
+  pub numbers : List Float
+  pub index : ℕ
+
+abbrev pub stationCells : List Float → ℕ → StationCells
+stationCells ns i = record { numbers = ns; index = i }
+
+abbrev pub stationLeft : CurveStation2 → StationCells
+stationLeft s = stationCells (s .point .x ∷ s .point .y ∷ s .direction .x ∷ s .direction .y ∷ s .fraction ∷ []) (s .index)
+
+-- the circle of a trial, and whether there is one to add; no circle is written where there is none
+pub record TrialCells : Type 0 where
+  pub circle : List Float
+  pub added : Bool
+
+abbrev pub trialCells : List Float → Bool → TrialCells
+trialCells ns b = record { circle = ns; added = b }
+
+abbrev pub trialLeft : List Float → Option Inscribed → TrialCells
+trialLeft before (some c) = trialCells (numbersOf c) true
+trialLeft before none = trialCells before false
+
+-- the first and the last circle
+pub record EndCells : Type 0 where
+  pub front : List Float
+  pub back : List Float
+
+abbrev pub endCells : List Float → List Float → EndCells
+endCells a b = record { front = a; back = b }
+
+abbrev pub endsLeft : FrontAndBack → EndCells
+endsLeft e = endCells (numbersOf (e .front)) (numbersOf (e .back))
+
+-- a curve's count of points, and whether it is closed
+abbrev pub curveCells : ℕ → Bool → Curve
+curveCells n b = record { count = n; «is_closed» = b }
+
+-- a part of a store: where it starts, and how many numbers it has
+pub record PartCells : Type 0 where
+  pub first : ℕ
+  pub numbers : ℕ
+
+abbrev pub partCells : ℕ → ℕ → PartCells
+partCells i n = record { first = i; numbers = n }
+
+-- the circles in use from a place on
+abbrev pub partOf : List Float → ℕ → ℕ → Answer PartCells
+partOf ns count place = circlesEntry ns count place >>= λ passed. result (partCells (place * width) ((count - place) * width))
+
+-- ---- runs
+
+-- count and units are written wherever the run was not refused on entry
+pub record ToldRun : Type 0 where
+  pub number : ℕ
+  pub count : ℕ
+  pub units : ℕ
+  pub store : List Float
+
+unfoldable pub toldRun : {A : Type 0} → ℕ → ℕ → Called A → ToldRun
+toldRun count units (refusedOnEntry r store) = record { number = numberOf r; count = count; units = units; store = store }
+toldRun count units (ran r) = record { number = endingNumber (r .ending); count = r .count; units = r .units; store = r .store }
+
+-- the edge point of a fit, where it ends with one
+unfoldable pub pointAtEnd : List Float → Ending (Answer Point2) → List Float
+pointAtEnd before (ended (result p)) = p .x ∷ p .y ∷ []
+pointAtEnd before (ended (refusal r)) = before
+pointAtEnd before spent = before
+pointAtEnd before unfinished = before
+
+unfoldable pub pointLeft : List Float → Called Point2 → List Float
+unfolding pointAtEnd
+pointLeft before (refusedOnEntry r store) = before
+pointLeft before (ran r) = pointAtEnd before (r .ending)

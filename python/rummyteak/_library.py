@@ -1,0 +1,108 @@
+"""The shared library, and how its functions are called."""
+
+from __future__ import annotations
+
+import ctypes
+import os
+from pathlib import Path
+from typing import Any
+
+# Numbers to a circle, and circles that a store holds at most.
+WIDTH = 7
+SLOTS = 1024
+
+# The endings in words.
+WORDS = {
+    0: "a result",
+    1: "odd count of numbers, fewer than 2 points, or too many",
+    2: "a number isn't finite, lies beyond 1,000,000, or is a radius below zero",
+    3: "a tolerance is out of its range",
+    4: "a stated count, a place or an output doesn't fit",
+    5: "cleaning leaves fewer than two points",
+    6: "neighbouring points are no farther apart than the section tolerance, or lengths don't rise",
+    7: "fewer than two circles",
+    8: "the line has not exactly two hits",
+    9: "a length along below 0 or above the whole",
+    10: "a line is too long to be halved down to the tolerance",
+    11: "a direction has length zero",
+    12: "a value on the way isn't finite",
+    13: "the advance finds no line",
+    14: "spent: one more unit is wanted than the limit",
+    15: "no slot is free",
+    16: "a 65th circle would wait in a refinement",
+    17: "the section is closed",
+    18: "a gap end lies behind the camber line's end",
+    19: "camber line and gap are parallel",
+    20: "the camber line misses the gap",
+}
+
+
+def _path() -> Path:
+    named = os.environ.get("RUMMYTEAK_LIBRARY")
+    if named:
+        return Path(named)
+    return Path(__file__).resolve().parents[2] / "target" / "lib" / "librummyteak.so"
+
+
+_loaded: Any = None
+
+d, n, b, u = ctypes.c_double, ctypes.c_size_t, ctypes.c_bool, ctypes.c_uint32
+P, N, B, U = (ctypes.POINTER(t) for t in (d, n, b, u))
+_slice = [P, n]
+_line = [d, d, d, d]
+
+_arguments = {
+    "sqrt": [d, P],
+    "from_points": [*_slice, d, b, *_slice, N, B],
+    "reversed": [*_slice, d, *_slice, N, B],
+    "is_closed": [*_slice, d, B],
+    "length": [*_slice, d, P],
+    "at_front": [*_slice, d, P, N],
+    "at_back": [*_slice, d, P, N],
+    "at_vertex": [*_slice, d, n, P, N],
+    "at_length": [*_slice, d, d, P, N],
+    "at_closest_to_point": [*_slice, d, d, d, P, N],
+    "length_along": [*_slice, d, n, d, P],
+    "crossing_line": [*_slice, d, *_line, P],
+    "joined_crossing": [*_slice, d, *_line, P],
+    "inscribed_from_crossing": [*_slice, d, d, *_line, P],
+    "try_inscribed": [*_slice, d, d, *_line, P],
+    "inscribed_refined": [*_slice, d, d, P, P, P, B],
+    "refine_and_push": [*_slice, d, d, *_slice, n, P, u, N, U],
+    "march": [*_slice, d, d, *_line, *_slice, u, N, U],
+    "extract_circles": [*_slice, d, d, *_line, *_slice, u, N, U],
+    "front_and_back": [*_slice, n, P, P],
+    "index_of_tmax": [*_slice, n, N],
+    "average_spacing": [*_slice, n, P],
+    "end_clip_line": [*_slice, n, P],
+    "reverse_points": [*_slice, n],
+    "reverse_order_only": [*_slice, n],
+    "reverse_order": [*_slice, n],
+    "circles_from": [*_slice, n, n, N, N],
+    "camber_curve": [*_slice, n, d, *_slice, N, B],
+    "make_camber_curve": [d, d, d, d, *_slice, n, d, *_slice, N, B],
+    "orient_tmax_fwd": [*_slice, n, B],
+    "orient_airflow": [d, d, *_slice, n, B],
+    "orient_fwd": [d, d, *_slice, n, B],
+    "orient_upper": [d, d, *_slice, n, B],
+    "orient_lower": [d, d, *_slice, n, B],
+    "is_open_at_end": [*_slice, d, d, *_slice, n, b, B],
+    "fit_open_edge": [*_slice, d, d, *_slice, n, b, u, P, N, U],
+}
+
+
+def _load() -> Any:
+    global _loaded
+    if _loaded is None:
+        library = ctypes.CDLL(str(_path()))
+        for name, arguments in _arguments.items():
+            function = getattr(library, "rummyteak_" + name)
+            function.argtypes = arguments
+            function.restype = u
+        _loaded = library
+    return _loaded
+
+
+def call(name: str, *args: Any) -> int:
+    """Calls rummyteak_NAME. A single number to be written is handed in as a ctypes object; the lock of the interpreter is free meanwhile."""
+    return getattr(_load(), "rummyteak_" + name)(*(ctypes.byref(a) if isinstance(a, (d, n, b, u)) else a for a in args))

@@ -1,0 +1,302 @@
+/* Calls every function of the C interface on good and bad input. Buffers are exactly as long as stated and come from
+ * malloc, so that the address sanitizer sees a step beyond them; what a refusal must leave alone is filled with a mark. */
+#include "../include/rummyteak.h"
+
+#include <inttypes.h>
+#include <math.h>
+#include <stdio.h>
+#include <stdlib.h>
+#include <string.h>
+
+static int checks, wrong;
+
+static void expect(bool right, const char *what, int line)
+{
+    checks++;
+    if (!right) {
+        wrong++;
+        printf("line %d: %s\n", line, what);
+    }
+}
+
+#define EXPECT(x) expect((x), #x, __LINE__)
+
+static uint64_t bits(double x)
+{
+    uint64_t u;
+    memcpy(&u, &x, sizeof u);
+    return u;
+}
+
+static bool same(const double *a, const double *b, size_t n)
+{
+    for (size_t i = 0; i < n; i++)
+        if (bits(a[i]) != bits(b[i]))
+            return false;
+    return true;
+}
+
+/* A buffer of n numbers, all of them the mark. */
+static const double MARK = -12345.0;
+
+static double *marked(size_t n)
+{
+    double *p = malloc(n ? n * sizeof *p : 1);
+    if (!p)
+        exit(2);
+    for (size_t i = 0; i < n; i++)
+        p[i] = MARK;
+    return p;
+}
+
+static double *copy(const double *a, size_t n)
+{
+    double *p = marked(n);
+    memcpy(p, a, n * sizeof *p);
+    return p;
+}
+
+static bool untouched(const double *p, size_t from, size_t to)
+{
+    for (size_t i = from; i < to; i++)
+        if (bits(p[i]) != bits(MARK))
+            return false;
+    return true;
+}
+
+/* R is (0,0) (8,0) (8,2) (0,2) (0,0); U is R without its last point. */
+static const double R[] = {0, 0, 8, 0, 8, 2, 0, 2, 0, 0};
+#define RLEN 10
+#define ULEN 8
+static const double T = 0.001, G = 0.01;
+
+/* Circles at (4,1) and (5,1), radius 1, contacts straight below and above. */
+static const double PAIR[] = {4, 1, 1, 4, 0, 4, 2, 5, 1, 1, 5, 0, 5, 2};
+
+static void roots(void)
+{
+    double r = MARK;
+    EXPECT(rummyteak_sqrt(25, &r) == 0 && r == 5);
+    EXPECT(rummyteak_sqrt(2, &r) == 0 && bits(r) == UINT64_C(0x3ff6a09e667f3bcd));
+    EXPECT(rummyteak_sqrt(-0.0, &r) == 0 && bits(r) == bits(-0.0));
+    r = MARK;
+    EXPECT(rummyteak_sqrt(-1, &r) == 12 && r == MARK);
+    EXPECT(rummyteak_sqrt(NAN, &r) == 2 && r == MARK);
+}
+
+static void cleaning(void)
+{
+    const double four[] = {0, 0, 0.5, 0, 1, 0, 1.5, 0};
+    const double two[] = {0, 0, 1, 0};
+    double *points = copy(four, 8), *out = marked(10), *back = marked(RLEN), *r = copy(R, RLEN);
+    size_t count = 77;
+    bool closed = true;
+    EXPECT(rummyteak_from_points(points, 8, 0.5, false, out, 10, &count, &closed) == 0);
+    EXPECT(count == 2 && !closed && same(out, two, 4) && untouched(out, 4, 10));
+    for (size_t i = 0; i < 10; i++)
+        out[i] = MARK;
+    count = 77, closed = true;
+    EXPECT(rummyteak_from_points(points, 4, 0.5, false, out, 10, &count, &closed) == 5);
+    EXPECT(rummyteak_from_points(points, 8, 0.5, false, out, 9, &count, &closed) == 4);
+    EXPECT(rummyteak_from_points(points, 7, 0.5, false, out, 10, &count, &closed) == 1);
+    EXPECT(rummyteak_from_points(points, 8, -1, false, out, 10, &count, &closed) == 3);
+    EXPECT(rummyteak_from_points(NULL, 0, 0.5, false, NULL, 0, &count, &closed) == 1);
+    EXPECT(count == 77 && closed && untouched(out, 0, 10));
+    EXPECT(rummyteak_reversed(r, RLEN, T, back, RLEN, &count, &closed) == 0);
+    EXPECT(count == 5 && closed && back[2] == 0 && back[3] == 2);
+    for (size_t i = 0; i < RLEN; i++)
+        back[i] = MARK;
+    EXPECT(rummyteak_reversed(r, RLEN, T, back, RLEN - 1, &count, &closed) == 4 && untouched(back, 0, RLEN));
+    free(points), free(out), free(back), free(r);
+}
+
+static void sections(void)
+{
+    double *r = copy(R, RLEN), *station = marked(5), *crossing = marked(4), x = MARK;
+    size_t index = 77;
+    bool yes = false;
+    EXPECT(rummyteak_is_closed(r, RLEN, T, &yes) == 0 && yes);
+    EXPECT(rummyteak_is_closed(r, ULEN, T, &yes) == 0 && !yes);
+    EXPECT(rummyteak_is_closed(r, 3, T, &yes) == 1 && !yes);
+    EXPECT(rummyteak_length(r, RLEN, T, &x) == 0 && x == 20);
+    EXPECT(rummyteak_length(r, RLEN, NAN, &x) == 3 && x == 20);
+    EXPECT(rummyteak_at_length(r, RLEN, T, 9, station, &index) == 0);
+    EXPECT(station[0] == 8 && station[1] == 1 && station[4] == 0.5 && index == 1);
+    EXPECT(rummyteak_at_length(r, RLEN, T, 20, station, &index) == 0 && station[4] == 1 && index == 3);
+    index = 77;
+    for (size_t i = 0; i < 5; i++)
+        station[i] = MARK;
+    EXPECT(rummyteak_at_length(r, RLEN, T, -0.5, station, &index) == 9);
+    EXPECT(rummyteak_at_vertex(r, RLEN, T, 5, station, &index) == 4);
+    EXPECT(rummyteak_at_closest_to_point(r, RLEN, T, INFINITY, 0, station, &index) == 2);
+    EXPECT(index == 77 && untouched(station, 0, 5));
+    EXPECT(rummyteak_at_front(r, RLEN, T, station, &index) == 0 && station[0] == 0 && index == 0);
+    EXPECT(rummyteak_at_back(r, ULEN, T, station, &index) == 0 && station[1] == 2 && station[4] == 1);
+    EXPECT(rummyteak_at_vertex(r, RLEN, T, 1, station, &index) == 0 && station[0] == 8 && index == 1);
+    EXPECT(rummyteak_at_closest_to_point(r, RLEN, T, 4, -1, station, &index) == 0 && station[0] == 4 && station[1] == 0);
+    EXPECT(rummyteak_length_along(r, RLEN, T, 1, 0.5, &x) == 0 && x == 9);
+    EXPECT(rummyteak_length_along(r, RLEN, T, 4, 0.5, &x) == 4 && x == 9);
+    EXPECT(rummyteak_crossing_line(r, RLEN, T, 4, 1, 0, 1, crossing) == 0);
+    EXPECT(crossing[0] == 4 && crossing[1] == 0 && crossing[2] == 0 && crossing[3] == 2);
+    for (size_t i = 0; i < 4; i++)
+        crossing[i] = MARK;
+    EXPECT(rummyteak_crossing_line(r, RLEN, T, 4, 1, 4, 1, crossing) == 8 && untouched(crossing, 0, 4));
+    EXPECT(rummyteak_joined_crossing(r, RLEN, T, 4, 1, 4, 1, crossing) == 0);
+    EXPECT(crossing[0] == 0 && crossing[1] == 0 && crossing[2] == 8 && crossing[3] == 2);
+    EXPECT(rummyteak_joined_crossing(r, RLEN, T, 20, 1, 0, 1, crossing) == 8);
+    free(r), free(station), free(crossing);
+}
+
+static void circles(void)
+{
+    const double want[] = {4, 1.00048828125, 0.99951171875, 4, 0, 4, 2};
+    double *r = copy(R, RLEN), *c = marked(7), *a = copy(PAIR, 7), *b = copy(PAIR + 7, 7);
+    bool added = true;
+    EXPECT(rummyteak_inscribed_from_crossing(r, RLEN, T, G, 4, 0, 0, 2, c) == 0 && same(c, want, 7));
+    EXPECT(rummyteak_try_inscribed(r, RLEN, T, G, 4, 1, 0, 1, c) == 0 && same(c, want, 7));
+    for (size_t i = 0; i < 7; i++)
+        c[i] = MARK;
+    EXPECT(rummyteak_try_inscribed(r, RLEN, T, G, 20, 1, 0, 1, c) == 8);
+    EXPECT(rummyteak_inscribed_from_crossing(r, RLEN, T, 1e-7, 4, 0, 0, 2, c) == 3);
+    EXPECT(rummyteak_inscribed_refined(r, RLEN, T, G, a, b, c, &added) == 0 && !added && untouched(c, 0, 7));
+    a[2] = -1, added = true;
+    EXPECT(rummyteak_inscribed_refined(r, RLEN, T, G, a, b, c, &added) == 2 && added && untouched(c, 0, 7));
+    free(r), free(c), free(a), free(b);
+}
+
+static void runs(void)
+{
+    double *r = copy(R, RLEN), *circle = copy(PAIR + 7, 7);
+    size_t count = 77, full = 77;
+    uint32_t units = 77, all = 77;
+    double *big = marked(7 * 200), *small = marked(7 * 200), *none = marked(6);
+    EXPECT(rummyteak_march(r, RLEN, T, G, 4, 1, 0, 1, big, 7 * 200, RUMMYTEAK_NO_LIMIT, &full, &all) != 77);
+    EXPECT(full > 0 && all > 0 && untouched(big, 7 * full, 7 * 200));
+    for (uint32_t limit = 0; limit <= all + 1; limit++) {
+        for (size_t i = 0; i < 7 * 200; i++)
+            small[i] = MARK;
+        uint32_t n = rummyteak_march(r, RLEN, T, G, 4, 1, 0, 1, small, 7 * 200, limit, &count, &units);
+        EXPECT((n == 14) == (limit < all) && units == (limit < all ? limit : all));
+        EXPECT(count <= full && same(small, big, 7 * count) && untouched(small, 7 * count, 7 * 200));
+    }
+    count = 77, units = 77;
+    EXPECT(rummyteak_march(r, RLEN, T, G, 4, 1, 0, 1, none, 6, 9, &count, &units) == 15 && count == 0 && units == 0);
+    EXPECT(rummyteak_march(r, RLEN, T, G, 20, 1, 0, 1, none, 6, 9, &count, &units) == 8 && count == 0 && units == 0);
+    count = 77, units = 77;
+    EXPECT(rummyteak_march(r, RLEN, T, NAN, 4, 1, 0, 1, none, 6, 9, &count, &units) == 3 && count == 77 && units == 77);
+    EXPECT(rummyteak_extract_circles(r, 5, T, G, 4, 1, 0, 1, none, 6, 9, &count, &units) == 1 && count == 77);
+    EXPECT(untouched(none, 0, 6));
+    EXPECT(rummyteak_extract_circles(r, RLEN, T, G, 4, 1, 0, 1, big, 7 * 200, 9, &count, &units) == 14 && units == 9);
+    double *store = marked(21);
+    memcpy(store, PAIR, 7 * sizeof *store);
+    EXPECT(rummyteak_refine_and_push(r, RLEN, T, G, store, 21, 1, circle, 100, &count, &units) == 0);
+    EXPECT(count == 2 && units == 1 && same(store, PAIR, 14) && untouched(store, 14, 21));
+    count = 77, units = 77;
+    EXPECT(rummyteak_refine_and_push(r, RLEN, T, G, store, 14, 3, circle, 100, &count, &units) == 4);
+    EXPECT(rummyteak_refine_and_push(r, RLEN, T, G, store, 14, SIZE_MAX, circle, 100, &count, &units) == 4);
+    EXPECT(rummyteak_refine_and_push(r, RLEN, T, G, store, 21, 3, circle, 100, &count, &units) == 2);
+    EXPECT(count == 77 && units == 77 && same(store, PAIR, 14) && untouched(store, 14, 21));
+    free(r), free(circle), free(big), free(small), free(none), free(store);
+}
+
+static void lists(void)
+{
+    double *store = copy(PAIR, 14), *front = marked(7), *back = marked(7), *line = marked(4), x = MARK;
+    size_t place = 77, first = 77, numbers = 77;
+    EXPECT(rummyteak_front_and_back(store, 14, 2, front, back) == 0 && same(front, PAIR, 7) && same(back, PAIR + 7, 7));
+    for (size_t i = 0; i < 7; i++)
+        front[i] = back[i] = MARK;
+    EXPECT(rummyteak_front_and_back(store, 14, 0, front, back) == 7 && untouched(front, 0, 7) && untouched(back, 0, 7));
+    EXPECT(rummyteak_index_of_tmax(store, 14, 2, &place) == 0 && place == 1);
+    EXPECT(rummyteak_index_of_tmax(store, 14, 3, &place) == 4 && place == 1);
+    EXPECT(rummyteak_average_spacing(store, 14, 2, &x) == 0 && x == 1);
+    EXPECT(rummyteak_average_spacing(store, 14, 1, &x) == 7 && x == 1);
+    EXPECT(rummyteak_end_clip_line(store, 14, 2, line) == 0 && line[2] == 1);
+    EXPECT(rummyteak_end_clip_line(store, 14, 1, line) == 7);
+    EXPECT(rummyteak_circles_from(store, 14, 2, 1, &first, &numbers) == 0 && first == 7 && numbers == 7);
+    EXPECT(rummyteak_circles_from(store, 14, 2, 2, &first, &numbers) == 0 && numbers == 0);
+    first = numbers = 77;
+    EXPECT(rummyteak_circles_from(store, 14, 2, 3, &first, &numbers) == 4 && first == 77 && numbers == 77);
+    EXPECT(rummyteak_reverse_points(store, 14, 2) == 0 && store[4] == 2 && store[6] == 0);
+    EXPECT(rummyteak_reverse_order(store, 14, 2) == 0 && same(store, PAIR + 7, 7));
+    EXPECT(rummyteak_reverse_order_only(store, 14, 2) == 0 && same(store, PAIR, 14));
+    EXPECT(rummyteak_reverse_order_only(store, 14, 9) == 4 && same(store, PAIR, 14));
+    store[0] = NAN;
+    EXPECT(rummyteak_index_of_tmax(store, 14, 2, &place) == 2);
+    EXPECT(rummyteak_reverse_points(store, 14, 2) == 2 && store[4] == 0);
+    free(store), free(front), free(back), free(line);
+}
+
+static void curves(void)
+{
+    double *store = copy(PAIR, 14), *out = marked(10);
+    size_t kept = 77;
+    bool closed = true;
+    EXPECT(rummyteak_camber_curve(store, 14, 2, T, out, 6, &kept, &closed) == 0 && kept == 2 && !closed);
+    EXPECT(out[0] == 4 && out[3] == 1 && untouched(out, 4, 10));
+    EXPECT(rummyteak_make_camber_curve(0, 1, 8, 1, store, 14, 2, T, out, 10, &kept, &closed) == 0 && kept == 4);
+    EXPECT(out[0] == 0 && out[6] == 8 && untouched(out, 8, 10));
+    kept = 77;
+    EXPECT(rummyteak_camber_curve(store, 14, 2, T, out, 5, &kept, &closed) == 4);
+    EXPECT(rummyteak_make_camber_curve(0, 2e6, 8, 1, store, 14, 2, T, out, 10, &kept, &closed) == 2 && kept == 77);
+    free(store), free(out);
+}
+
+static void orientation(void)
+{
+    double *store = copy(PAIR, 14);
+    bool yes = false;
+    EXPECT(rummyteak_orient_lower(1, 0, store, 14, 2, &yes) == 0 && yes && store[4] == 2);
+    EXPECT(rummyteak_orient_upper(0, -1, store, 14, 2, &yes) == 0 && !yes && store[4] == 2);
+    EXPECT(rummyteak_orient_upper(0, 1, store, 14, 2, &yes) == 0 && yes && same(store, PAIR, 14));
+    EXPECT(rummyteak_orient_fwd(1, 0, store, 14, 2, &yes) == 0 && yes && store[0] == 5);
+    EXPECT(rummyteak_orient_airflow(1, 0, store, 14, 2, &yes) == 0 && yes && same(store, PAIR, 14));
+    EXPECT(rummyteak_orient_tmax_fwd(store, 14, 2, &yes) == 0);
+    double *one = copy(PAIR, 7);
+    yes = true;
+    EXPECT(rummyteak_orient_fwd(1, 0, one, 7, 1, &yes) == 7 && yes && same(one, PAIR, 7));
+    EXPECT(rummyteak_orient_airflow(NAN, 0, one, 7, 1, &yes) == 2 && yes);
+    EXPECT(rummyteak_orient_tmax_fwd(one, 7, 2, &yes) == 4 && yes);
+    free(store), free(one);
+}
+
+static void edges(void)
+{
+    const double three[] = {2, 1.00048828125, 0.99951171875, 2, 0, 2, 2};
+    double *r = copy(R, ULEN), *closed = copy(R, RLEN), *store = marked(21), *point = marked(2);
+    size_t count = 77;
+    uint32_t units = 77;
+    bool open = false;
+    memcpy(store, PAIR, sizeof PAIR);
+    EXPECT(rummyteak_is_open_at_end(r, ULEN, T, G, store, 21, 2, true, &open) == 0 && open);
+    EXPECT(rummyteak_is_open_at_end(closed, RLEN, T, G, store, 21, 2, true, &open) == 0 && !open);
+    open = true;
+    EXPECT(rummyteak_is_open_at_end(r, ULEN, T, G, store, 21, 1, true, &open) == 7 && open);
+    EXPECT(rummyteak_fit_open_edge(r, ULEN, T, G, store, 21, 2, true, 0, point, &count, &units) == 14);
+    EXPECT(count == 2 && units == 0 && untouched(point, 0, 2) && same(store, PAIR, 14) && untouched(store, 14, 21));
+    EXPECT(rummyteak_fit_open_edge(r, ULEN, T, G, store, 21, 2, false, 1, point, &count, &units) == 20);
+    EXPECT(rummyteak_fit_open_edge(r, ULEN, T, G, store, 21, 2, true, 1, point, &count, &units) == 0);
+    EXPECT(count == 3 && units == 1 && point[0] == 0 && point[1] == 1.00048828125);
+    EXPECT(same(store, three, 7) && same(store + 7, PAIR, 14));
+    EXPECT(rummyteak_fit_open_edge(closed, RLEN, T, G, store, 21, 3, true, 1, point, &count, &units) == 17);
+    EXPECT(count == 3 && units == 0);
+    count = 77, units = 77;
+    EXPECT(rummyteak_fit_open_edge(r, ULEN, T, G, store, 21, 4, true, 1, point, &count, &units) == 4);
+    EXPECT(count == 77 && units == 77);
+    free(r), free(closed), free(store), free(point);
+}
+
+int main(void)
+{
+    roots();
+    cleaning();
+    sections();
+    circles();
+    runs();
+    lists();
+    curves();
+    orientation();
+    edges();
+    printf("C interface: %d checks, %d wrong\n", checks, wrong);
+    return wrong != 0;
+}
