@@ -4,6 +4,7 @@ from __future__ import annotations
 
 import json
 import os
+import re
 import struct
 import subprocess
 import sys
@@ -118,6 +119,44 @@ class Rows(unittest.TestCase):
             self.assertEqual(run.units, min(limit, plain.units))
             self.assertEqual(run.circles, plain.circles[: len(run.circles)])
         self.assertEqual(rt.refine_and_push(R, T, G, PAIR[:1], PAIR[1]).circles, PAIR)
+
+
+class Header(unittest.TestCase):
+    """What stands in the header and in the module once more is what the crates have."""
+
+    header = (ROOT / "include" / "rummyteak.h").read_text(encoding="utf-8")
+
+    def source(self, *path):
+        return (ROOT / "crates").joinpath(*path).read_text(encoding="utf-8")
+
+    def constant(self, name, *path):
+        return int(re.search(rf"const {name}: usize = (\d+);", self.source(*path)).group(1))
+
+    def defined(self, name):
+        return int(re.search(rf"#define {name} (\d+)", self.header).group(1))
+
+    def test_sizes(self):
+        width = self.constant("WIDTH", "inscribed", "src", "store.rt")
+        slots = self.constant("MOST_SLOTS", "inscribed", "src", "store.rt")
+        points = self.constant("MOST_POINTS", "curve2", "src", "lib.rt")
+        self.assertEqual((self.defined("RUMMYTEAK_WIDTH"), rt.WIDTH), (width, width))
+        self.assertEqual((self.defined("RUMMYTEAK_SLOTS"), rt.SLOTS), (slots, slots))
+        self.assertEqual((self.defined("RUMMYTEAK_POINTS"), self.defined("RUMMYTEAK_CLEANED")), (points, points - 1))
+
+    def test_endings(self):
+        cases = {int(n): name for name, n in re.findall(r"Refusal::(\w+) => (\d+),", self.source("errors", "src", "lib.rt"))}
+        cases.update({0: "Result", 14: "Spent"})
+        named = {int(n): name for name, n in re.findall(r"RUMMYTEAK_(\w+) = (\d+)", self.header)}
+        self.assertEqual(named, {n: re.sub(r"(?<!^)([A-Z])", r"_\1", name).upper() for n, name in cases.items()})
+        self.assertEqual(sorted(rt.WORDS), sorted(named))
+
+    def test_functions(self):
+        exports = set()
+        for file in (ROOT / "crates" / "rummyteak" / "src").glob("*.rt"):
+            exports.update(re.findall(r'extern "C" fn rummyteak_(\w+)', file.read_text(encoding="utf-8")))
+        self.assertEqual(set(re.findall(r"uint32_t rummyteak_(\w+)\(", self.header)), exports)
+        self.assertEqual(set(rt._library._arguments), exports)
+        self.assertLessEqual(exports, set(rt.__all__))
 
 
 class Command(unittest.TestCase):

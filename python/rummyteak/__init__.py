@@ -4,14 +4,14 @@ Each function calls the proved library. What it refuses is an exception, Refused
 extract_circles, fit_open_edge) that began returns its circles whichever way it ended.
 
 Points may be a list of pairs, a flat list of numbers, or anything with the buffer protocol that holds float64 numbers (an array.array('d'), a
-contiguous numpy array); such a buffer is read where it stands, without a copy.
+contiguous numpy array); such a buffer is read where it stands, and copied only where it is read-only.
 """
 
 from __future__ import annotations
 
 import ctypes
 from dataclasses import dataclass
-from typing import Any, Iterable, Iterator, List, Optional, Sequence, Tuple, Union
+from typing import Any, Iterable, List, Optional, Sequence, Tuple, Union
 
 from ._library import SLOTS, WIDTH, WORDS, call
 

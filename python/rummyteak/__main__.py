@@ -11,7 +11,7 @@ import sys
 from concurrent.futures import ThreadPoolExecutor
 from typing import Any, Dict, List, Optional, Tuple
 
-from . import WORDS
+from . import NO_LIMIT, SLOTS, WORDS
 from .blade import Blade, Options, worked_out
 from .files import Unreadable, read
 from .picture import svg
@@ -58,8 +58,8 @@ def _parser() -> argparse.ArgumentParser:
     side.add_argument("--upper", type=float, nargs=2, metavar=("X", "Y"), help="a vector to the upper side")
     side.add_argument("--lower", type=float, nargs=2, metavar=("X", "Y"), help="a vector to the lower side")
     parser.add_argument("--end", choices=("auto", "front", "back", "none"), default="auto", help="which end's open edge is fitted (auto)")
-    parser.add_argument("--limit", type=int, default=4_294_967_295, help="units at most")
-    parser.add_argument("--slots", type=int, default=1024, help="circles at most (1024)")
+    parser.add_argument("--limit", type=int, default=NO_LIMIT, help="units at most in each run: the circles, and the open edge")
+    parser.add_argument("--slots", type=int, default=SLOTS, help=f"circles at most ({SLOTS})")
     parser.add_argument("--csv", metavar="FILE", help="write the circles as CSV; - is standard output")
     parser.add_argument("--json", metavar="FILE", help="write everything as JSON; - is standard output")
     parser.add_argument("--svg", metavar="FILE", help="write the picture; - is standard output")
@@ -173,8 +173,8 @@ def _many(names: List[str], options: Options) -> int:
 
 def main(arguments: Optional[List[str]] = None) -> int:
     args = _parser().parse_args(arguments)
-    if not 0 <= args.limit <= 4_294_967_295 or not 0 <= args.slots <= 1024:
-        sys.stderr.write("rummyteak: a limit is 0 to 4294967295, slots are 0 to 1024\n")
+    if not 0 <= args.limit <= NO_LIMIT or not 0 <= args.slots <= SLOTS:
+        sys.stderr.write(f"rummyteak: a limit is 0 to {NO_LIMIT}, slots are 0 to {SLOTS}\n")
         return WRONG_CALL
     options = _options(args)
     if len(args.files) > 1:

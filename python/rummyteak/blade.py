@@ -3,7 +3,7 @@
 from __future__ import annotations
 
 import math
-from dataclasses import dataclass, field
+from dataclasses import dataclass
 from typing import Any, List, Optional, Sequence, Tuple
 
 import rummyteak as rt
@@ -46,7 +46,6 @@ class Blade:
     thickest: Optional[int] = None
     number: int = 0
     step: str = ""
-    notes: List[str] = field(default_factory=list)
 
     def ended(self, number: int, step: str) -> None:
         if number and not self.number:
@@ -107,8 +106,7 @@ def _fitted(blade: Blade, options: Options, numbers: Sequence[float]) -> None:
         at_front = options.end == "front" or (options.end == "auto" and blade.open_front and not blade.open_back)
         if options.end == "none" or (options.end == "auto" and not (blade.open_front or blade.open_back)):
             return
-        left = max(options.limit - blade.units, 0) if options.limit != rt.NO_LIMIT else rt.NO_LIMIT
-        fit = rt.fit_open_edge(numbers, options.section_tol, options.tol, blade.circles, at_front, left, options.slots)
+        fit = rt.fit_open_edge(numbers, options.section_tol, options.tol, blade.circles, at_front, options.limit, options.slots)
     except rt.Refused as refused:
         blade.ended(refused.number, "open edge")
         return

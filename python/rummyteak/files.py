@@ -4,7 +4,7 @@ from __future__ import annotations
 
 import sys
 from array import array
-from typing import List, Optional, TextIO, Tuple
+from typing import Optional, TextIO, Tuple
 
 
 class Unreadable(Exception):
@@ -49,9 +49,3 @@ def read(name: str) -> array:
             return _points(file, name)
     except OSError as error:
         raise Unreadable(f"{name}: {error.strerror or error}") from error
-
-
-def line_of(words: List[str]) -> Tuple[float, float, float, float]:
-    """A reference line from four words."""
-    ox, oy, dx, dy = (float(w) for w in words)
-    return ox, oy, dx, dy

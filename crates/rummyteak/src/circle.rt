@@ -1,6 +1,7 @@
 // What is asked of one circle or two.
 use crate::given;
 use crate::telling;
+use inscribed::store::WIDTH;
 use line2::Line2;
 use points::Point2;
 use points::Vector2;
@@ -19,7 +20,7 @@ pub extern "C" fn rummyteak_inscribed_from_crossing(
     oy: f64,
     dx: f64,
     dy: f64,
-    circle: &mut [f64; 7],
+    circle: &mut [f64; WIDTH],
 ) -> u32
     ensures { λ r. ⌜ (record { number = r; left = now (circle .exit) }) ≡ toldAs numbersOf (now (circle .entry)) (fromCrossingAsked (now (section .entry)) «section_tol» tol (givenLine ox oy dx dy)) ⌝ }
 {
@@ -42,7 +43,7 @@ pub extern "C" fn rummyteak_try_inscribed(
     oy: f64,
     dx: f64,
     dy: f64,
-    circle: &mut [f64; 7],
+    circle: &mut [f64; WIDTH],
 ) -> u32
     ensures { λ r. ⌜ (record { number = r; left = now (circle .exit) }) ≡ toldAs numbersOf (now (circle .entry)) (tryAsked (now (section .entry)) «section_tol» tol (givenLine ox oy dx dy)) ⌝ }
 {
@@ -61,9 +62,9 @@ pub extern "C" fn rummyteak_inscribed_refined(
     section: &[f64],
     section_tol: f64,
     tol: f64,
-    a: &[f64; 7],
-    b: &[f64; 7],
-    circle: &mut [f64; 7],
+    a: &[f64; WIDTH],
+    b: &[f64; WIDTH],
+    circle: &mut [f64; WIDTH],
     added: &mut bool,
 ) -> u32
     ensures { λ r. ⌜ (record { number = r; left = trialCells (now (circle .exit)) (now (added .exit)) }) ≡ toldAs (trialLeft (now (circle .entry))) (trialCells (now (circle .entry)) (now (added .entry))) (trialAsked (now (section .entry)) «section_tol» tol (circleAt (now (a .entry)) 0) (circleAt (now (b .entry)) 0)) ⌝ }

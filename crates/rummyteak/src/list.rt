@@ -16,8 +16,8 @@ ghost use Rattle.rummyteak.specs.Told.{toldAs, told, lineNumbers, endCel
 pub extern "C" fn rummyteak_front_and_back(
     store: &[f64],
     count: usize,
-    front: &mut [f64; 7],
-    back: &mut [f64; 7],
+    front: &mut [f64; WIDTH],
+    back: &mut [f64; WIDTH],
 ) -> u32
     ensures { λ r. ⌜ (record { number = r; left = endCells (now (front .exit)) (now (back .exit)) }) ≡ toldAs endsLeft (endCells (now (front .entry)) (now (back .entry))) (endsAsked (now (store .entry)) count) ⌝ }
 {

@@ -1,6 +1,7 @@
 // Runs within a limit of units.
 use crate::given;
 use crate::telling;
+use inscribed::store::WIDTH;
 use line2::Line2;
 use points::Point2;
 use points::Vector2;
@@ -19,7 +20,7 @@ pub extern "C" fn rummyteak_refine_and_push(
     tol: f64,
     store: &mut [f64],
     stated: usize,
-    circle: &[f64; 7],
+    circle: &[f64; WIDTH],
     limit: u32,
     count: &mut usize,
     units: &mut u32,

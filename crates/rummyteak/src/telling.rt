@@ -9,6 +9,7 @@ use halving::TriedAnswer;
 use inscribed::FrontAndBackAnswer;
 use inscribed::Inscribed;
 use inscribed::InscribedAnswer;
+use inscribed::store::WIDTH;
 use line2::LineAnswer;
 use lists::PlaceAnswer;
 use refine::RunAnswer;
@@ -134,7 +135,7 @@ pub(crate) fn tell_line(a: LineAnswer, line: &mut [f64; 4]) -> u32
 }
 
 // Writes a circle's seven numbers.
-fn put_circle(circle: &mut [f64; 7], c: Inscribed)
+fn put_circle(circle: &mut [f64; WIDTH], c: Inscribed)
     ensures { λ _. ⌜ now (circle .exit) ≡ numbersOf c ⌝ }
 {
     let cx = c.cx;
@@ -148,7 +149,7 @@ fn put_circle(circle: &mut [f64; 7], c: Inscribed)
 }
 
 // A circle.
-pub(crate) fn tell_circle(a: InscribedAnswer, circle: &mut [f64; 7]) -> u32
+pub(crate) fn tell_circle(a: InscribedAnswer, circle: &mut [f64; WIDTH]) -> u32
     ensures { λ r. ⌜ (record { number = r; left = now (circle .exit) }) ≡ toldAs numbersOf (now (circle .entry)) (listedInscribed a) ⌝ }
 {
     match a {
@@ -161,7 +162,7 @@ pub(crate) fn tell_circle(a: InscribedAnswer, circle: &mut [f64; 7]) -> u32
 }
 
 // The circle of a trial, and whether there is one.
-pub(crate) fn tell_trial(a: TriedAnswer, circle: &mut [f64; 7], added: &mut bool) -> u32
+pub(crate) fn tell_trial(a: TriedAnswer, circle: &mut [f64; WIDTH], added: &mut bool) -> u32
     ensures { λ r. ⌜ (record { number = r; left = trialCells (now (circle .exit)) (now (added .exit)) }) ≡ toldAs (trialLeft (now (circle .entry))) (trialCells (now (circle .entry)) (now (added .entry))) (listedTried a) ⌝ }
 {
     match a {
@@ -179,7 +180,11 @@ pub(crate) fn tell_trial(a: TriedAnswer, circle: &mut [f64; 7], added: &mut bool
 }
 
 // The first and the last circle.
-pub(crate) fn tell_ends(a: FrontAndBackAnswer, front: &mut [f64; 7], back: &mut [f64; 7]) -> u32
+pub(crate) fn tell_ends(
+    a: FrontAndBackAnswer,
+    front: &mut [f64; WIDTH],
+    back: &mut [f64; WIDTH],
+) -> u32
     ensures { λ r. ⌜ (record { number = r; left = endCells (now (front .exit)) (now (back .exit)) }) ≡ toldAs endsLeft (endCells (now (front .entry)) (now (back .entry))) (listedEnds a) ⌝ }
 {
     match a {
