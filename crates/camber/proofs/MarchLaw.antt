@@ -1,5 +1,5 @@
 -- Demand 3 of marches. Assumes nothing.
-use mathlib.Core.Path.{_≡_, refl}
+use mathlib.Core.Path.{refl}
 use mathlib.Core.List.{[], _∷_}
 use Prim.Native.Nat.{ℕ}
 use native.Mathlib.Omega.{arith}
@@ -12,7 +12,7 @@ use Rattle.refine.specs.Machine.{refining, measure}
 use Rattle.refine.specs.Report.{refusedOnEntry, ran}
 use Rattle.refine.specs.Law.{LimitLaw}
 use Rattle.refine.proofs.MachineLaws.{Sound}
-use Rattle.refine.proofs.LawOfRuns.{still-law, run-law}
+use Rattle.refine.proofs.LawOfRuns.{not-unfinished, still-law, run-law}
 use Rattle.camber.specs.March.{Marched, marchStep, marchEntry, startOf, notStarted, afterStart, marchAfter, marchOf, plainMarch, marchedFrom, marchedCircles}
 use Rattle.camber.proofs.MarchMachine.{march-falls, march-grows, march-sound-goes, march-sound-pays}
 
@@ -26,7 +26,7 @@ module _ (m : Marched) where
   march-law limit = go (marchEntry m)
     where
       begun : (a : Answer Inscribed) → LimitLaw (m .section) (m .tol) (m .store) 0 (λ l. ran (afterStart m (underLimit l) a)) (ran (afterStart m never a)) (λ l. marchedFrom m (underLimit l) a) limit
-      begun (refusal r) = still-law (m .section) (m .tol) (m .store) 0 (ran (notStarted m r)) (λ e. let z : _≡_ {A = ℕ} 0 1 = cc in absurd (omega arith)) refl refl refl (not-14 r) limit
+      begun (refusal r) = still-law (m .section) (m .tol) (m .store) 0 (ran (notStarted m r)) (not-unfinished (refusal r)) refl refl refl (not-14 r) limit
       begun (result c) =
           run-law (marchStep (m .section) (m .tol) (slots (m .store))) (measure (slots (m .store))) (march-falls (m .section) (m .tol) (slots (m .store))) (march-grows (m .section) (m .tol) (slots (m .store))) (m .section) (m .tol) (m .store) 0
           (refining [] (c ∷ [])) (unfold circlesFrom in refl) (omega arith) (start-sound c)

@@ -17,13 +17,14 @@ use Rattle.inscribed.specs.declared.Inscribed.{Inscribed}
 use Rattle.refine.specs.Machine.{State, refining, circlesIn, End, measure, refineStep, refineRun}
 use Rattle.refine.specs.Report.{Report, ran, endingNumber, calledNumber, Ends}
 use Rattle.refine.specs.Law.{EndingLaw}
+use Rattle.refine.proofs.LawOfRuns.{not-unfinished}
 use Rattle.refine.proofs.MoveLaws.{refine-falls}
 use Rattle.refine.proofs.MachineLaws.{Part, refine-grows}
 use Rattle.lists.specs.Ends.{lastPair}
 use Rattle.gap.specs.Probe.{probed}
 use Rattle.gap.specs.declared.Gap.{Gap}
 use Rattle.gap.specs.declared.round.Moved.{Moved}
-use Rattle.gap.specs.Rounds.{FitEnd, Fit, fit, Progress, Round, stops, goes, movedPoint, afterMove, afterRefined, afterOut, afterProbe, round, onward, mostRounds, rounds, firstProgress}
+use Rattle.gap.specs.Rounds.{Fit, fit, Progress, Round, stops, goes, movedPoint, afterMove, afterRefined, afterOut, afterProbe, round, onward, mostRounds, rounds, firstProgress}
 use Rattle.edges.specs.Edges.{endLast, fitStart, fitFrom, fitReported, fitted, EdgeInput, edgeEntry, fitAfter, fitOf}
 use Rattle.edges.specs.declared.fitting.Start.{Start}
 
@@ -107,9 +108,6 @@ fit-larger limit more h i (result passed) f =
     ap (λ (x : Report Point2). ran x) (fitted-larger limit more h (i .section) (i .tol) (slots (i .store)) (i .sectionTol) (i .atFront) (i .store) (i .count) (λ e. f (ap endingNumber e)))
 
 -- ---- an edge fit ends
-
-not-unfinished : (e : FitEnd) → _≡_ {A = Ending FitEnd} (ended e) unfinished → ⊥
-not-unfinished e p = let z : _≡_ {A = ℕ} 0 1 = cc in absurd (omega arith)
 
 module _ (ns : List Float) (tol : Float) (slots : ℕ) (full : ℕ → Bool) where
   -- a round that came to its end

@@ -44,6 +44,9 @@ module _ {A : Type 0} where
   result-number spent p = absurd (omega (arith, p))
   result-number unfinished p = absurd (omega (arith, p))
 
+  pub not-unfinished : (a : Answer A) → _≡_ {A = Ending (Answer A)} (ended a) unfinished → ⊥
+  not-unfinished a p = let z : _≡_ {A = ℕ} 0 1 = cc in absurd (omega arith)
+
 -- ---- refused on entry, or at the start: nothing happens, whatever the limit
 
 pub still-law : (ns : List Float) (tol : Float) (old : List Float) (count : ℕ) (c : Called (Unit {0})) → Ends c → storeOf c ≡ old → countOf count c ≡ count → unitsOf c ≡ 0 → (calledNumber c ≡ 14 → ⊥)

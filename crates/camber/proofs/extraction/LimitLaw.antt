@@ -18,6 +18,7 @@ use Rattle.inscribed.specs.Lists.{turned}
 use Rattle.refine.specs.Machine.{State, refining, circlesIn, End, measure}
 use Rattle.refine.specs.Report.{ran, endingNumber, calledNumber, Ends, RunReport, reported}
 use Rattle.refine.specs.Law.{EndingLaw}
+use Rattle.refine.proofs.LawOfRuns.{not-unfinished}
 use Rattle.refine.proofs.MachineLaws.{Part}
 use Rattle.halving.specs.Halving.{inscribedOn}
 use Rattle.camber.specs.March.{Marched, marchStep, marchRun, marchEntry, startOf, startedRun}
@@ -72,9 +73,6 @@ module _ (limit more : ℕ) (h : limit ≤ more) where
 
 march-ends : (ns : List Float) (tol : Float) (slots : ℕ) (full : ℕ → Bool) (s : State) (u : ℕ) → marchRun ns tol slots full s u .ending ≡ unfinished → ⊥
 march-ends ns tol slots full s u = finishes (marchStep ns tol slots) (measure slots) (march-falls ns tol slots) full s u
-
-not-unfinished : (e : End) → _≡_ {A = Ending End} (ended e) unfinished → ⊥
-not-unfinished e p = let z : _≡_ {A = ℕ} 0 1 = cc in absurd (omega arith)
 
 module _ (m : Marched) (full : ℕ → Bool) where
   second-ends : (store : List Float) (k u : ℕ) (a : Answer Inscribed) → secondMarch (m .section) (m .tol) (slots (m .store)) full store k u a .ending ≡ unfinished → ⊥
