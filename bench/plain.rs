@@ -1,4 +1,60 @@
-// The steps that bench/section.rs times, in plain Rust: they watch no value and refuse nothing but a full store and a spent limit.
+// The calls that bench/section.rs times, in plain Rust: the port's entry tests and its steps, which watch no value and end early only where a store is full or a
+// limit is spent.
+
+// ---- entry tests
+
+// Of a section: the count of its numbers, their size, the tolerance, and that neighbours are apart and lengths rise. `bad` is whether another argument fails.
+pub fn enters(section: &[f64], tol: f64, bad: bool) -> bool {
+    let n = section.len();
+    if n % 2 != 0 || n / 2 < 2 || 4096 < n / 2 || bad || !(0.0..=1e6).contains(&tol) || !section.iter().all(|x| (-1e6..=1e6).contains(x)) {
+        return false;
+    }
+    let mut l = 0.0;
+    for i in (0..n - 2).step_by(2) {
+        let d = length(section[i + 2] - section[i], section[i + 3] - section[i + 1]);
+        let next = d + l;
+        if d <= tol || !(l < next) {
+            return false;
+        }
+        l = next;
+    }
+    true
+}
+
+// Of a run: a finite line or finite circles beside the section, and the general tolerance.
+pub fn enters_run(section: &[f64], section_tol: f64, tol: f64, numbers: &[f64]) -> bool {
+    enters(section, section_tol, !numbers.iter().all(|x| x.is_finite()) || !(1e-6..=1e3).contains(&tol))
+}
+
+// ---- calls
+
+// Whether the ends meet.
+pub fn is_closed(section: &[f64], tol: f64) -> Option<bool> {
+    if !enters(section, tol, false) {
+        return None;
+    }
+    let n = section.len();
+    Some(length(section[n - 2] - section[0], section[n - 1] - section[1]) <= tol)
+}
+
+// A station: point, direction and fraction, and its edge.
+pub fn closest(section: &[f64], tol: f64, px: f64, py: f64) -> Option<([f64; 5], usize)> {
+    if !enters(section, tol, !px.is_finite() || !py.is_finite()) {
+        return None;
+    }
+    let (i, x, y, f, _) = nearest(section, px, py);
+    let (dx, dy) = normalized(section[2 * i + 2] - section[2 * i], section[2 * i + 3] - section[2 * i + 1]);
+    Some(([x, y, dx, dy, f], i))
+}
+
+pub fn crossing_line(section: &[f64], tol: f64, l: Line) -> Option<Line> {
+    if !enters(section, tol, ![l.ox, l.oy, l.dx, l.dy].iter().all(|x| x.is_finite())) {
+        return None;
+    }
+    crossing(section, l)
+}
+
+// ---- steps
 
 // The least square wins, the lower edge on a tie.
 pub fn nearest(section: &[f64], px: f64, py: f64) -> (usize, f64, f64, f64, f64) {

@@ -24,26 +24,21 @@ pub fn curve(section: &[f64], section_tol: f64) -> Curve2 {
     curve
 }
 
-// The sum of the squared distances of points from a section.
-pub fn nearest(curve: &Curve2, ps: &[f64]) -> f64 {
-    ps.chunks_exact(2).fold(0.0, |sum, p| {
-        let p = Point2::new(p[0], p[1]);
-        let v = p - curve.at_closest_to_point(&p).point();
-        sum + v.dot(&v)
-    })
+// The nearest station: point, direction and fraction, and its edge.
+pub fn closest(curve: &Curve2, x: f64, y: f64) -> ([f64; 5], usize) {
+    let s = curve.at_closest_to_point(&Point2::new(x, y));
+    let ([x, y], [dx, dy]) = (s.point().coords.0, s.direction().into_inner().0);
+    ([x, y, dx, dy, s.fraction()], s.index())
 }
 
 fn line_at(n: &[f64]) -> Line2 {
     Line2::new(Point2::new(n[0], n[1]), SVector([n[2], n[3]]))
 }
 
-// The sum of the crossings' widths of lines with a section.
-pub fn crossings(curve: &Curve2, tol: f64, lines: &[f64]) -> f64 {
-    let input = SectionInput::new(curve, tol);
-    lines.chunks_exact(4).fold(0.0, |sum, n| {
-        let k = input.crossing_line(&line_at(n));
-        sum + k.map_or(0.0, |k| k.direction.0[0] + k.direction.0[1])
-    })
+pub fn crossing(curve: &Curve2, tol: f64, line: [f64; 4]) -> Option<[f64; 4]> {
+    let k = SectionInput::new(curve, tol).crossing_line(&line_at(&line))?;
+    let ([ox, oy], [dx, dy]) = (k.origin.coords.0, k.direction.0);
+    Some([ox, oy, dx, dy])
 }
 
 // The units of the run just made: lines tried, less those of start lines and probes.

@@ -1,14 +1,37 @@
-/* Nanoseconds a square root takes: the processor's instruction, the proved root, the digit-by-digit root.
+/* Nanoseconds a square root takes: the processor's instruction, the same behind a call that makes rummyteak_sqrt's tests, and rummyteak_sqrt.
    All three sum the roots of the same numbers, in turn; the least time of twenty-five rounds or more, and of 1.8 seconds or more, counts.
    `root once` runs each once through `counted`, for callgrind, and says in which order. */
+#include "rummyteak.h"
 #include <math.h>
-#include <stdint.h>
 #include <stdio.h>
 #include <string.h>
 #include <time.h>
 
-double bench_roots(const double *xs, size_t n);
-double bench_roots_by_digits(const double *xs, size_t n);
+static double by_port(const double *xs, size_t n) {
+    double sum = 0, root = 0;
+    for (size_t i = 0; i < n; i++)
+        if (rummyteak_sqrt(xs[i], &root) == RUMMYTEAK_RESULT)
+            sum += root;
+    return sum;
+}
+
+/* The processor's root with the tests and the form of rummyteak_sqrt. */
+__attribute__((noinline)) uint32_t tested_sqrt(double x, double *root) {
+    if (!isfinite(x))
+        return RUMMYTEAK_BAD_NUMBER;
+    if (x < 0)
+        return RUMMYTEAK_NOT_FINITE;
+    *root = sqrt(x);
+    return RUMMYTEAK_RESULT;
+}
+
+static double by_call(const double *xs, size_t n) {
+    double sum = 0, root = 0;
+    for (size_t i = 0; i < n; i++)
+        if (tested_sqrt(xs[i], &root) == RUMMYTEAK_RESULT)
+            sum += root;
+    return sum;
+}
 
 static double by_processor(const double *xs, size_t n) {
     double sum = 0;
@@ -55,11 +78,11 @@ int main(int argc, char **argv) {
         uint64_t bits = (x & 0x000fffffffffffffu) | (((x >> 52) % 1024 + 511) << 52);
         memcpy(&xs[i], &bits, 8);
     }
-    double a = 0, b = 0, c = 0, proved = 1e18, digits = 1e18, processor = 1e18;
+    double a = 0, b = 0, c = 0, port = 1e18, called = 1e18, processor = 1e18;
     double start = now();
     for (int round = 0; round < rounds || (!once && now() - start < 1.8e9); round++) {
-        a = once_more(bench_roots, xs, N, &proved);
-        b = once_more(bench_roots_by_digits, xs, N, &digits);
+        a = once_more(by_port, xs, N, &port);
+        b = once_more(by_call, xs, N, &called);
         c = once_more(by_processor, xs, N, &processor);
     }
     if (a != b || a != c) {
@@ -72,7 +95,7 @@ int main(int argc, char **argv) {
     }
     printf("square root, ns each over %d numbers\n", N);
     printf("  processor        %6.2f\n", processor);
-    printf("  square_root      %6.2f   %5.2f times the processor's\n", proved, proved / processor);
-    printf("  by digits        %6.2f   %5.2f times the processor's\n", digits, digits / processor);
+    printf("  processor, called%6.2f\n", called);
+    printf("  rummyteak_sqrt   %6.2f   %5.2f times the processor's, %.2f times the called one's\n", port, port / processor, port / called);
     return 0;
 }

@@ -1,31 +1,28 @@
-// The proved functions beside engeom's published ones (where they were cut, `--cfg published`) and beside plain Rust of the same steps, which watches no value.
-// All get the same sections and questions, in turn, round after round in one run, and must give the same bits; the least time counts. Stores are cleared, and the
-// circles of an edge fit put back, before each round and outside the time. The proved runs make their entry tests within it.
+// The C interface beside engeom's published functions (where they were cut, `--cfg published`) and beside plain Rust of the same tests and steps, which watches no
+// value. All get the same sections and questions, in turn, round after round in one run, and must give the same bits; the least time counts. Stores are cleared, and
+// the circles of an edge fit put back, before each round and outside the time. The port and plain Rust make the entry tests of every call within it; the published
+// functions make none, and their curve is made beforehand but in the row `tests`, where that is what is timed.
 // `section` prints times; `section once` runs everything once through `counted`, for callgrind, and says in which order.
+#[allow(dead_code)]
+#[path = "../oracle/interface.rs"]
+mod interface;
 mod plain;
 #[cfg(published)]
 mod published;
+use interface::*;
 use plain::{Circle, Line};
 #[cfg(published)]
 use published::{Curve2, CurveStation2, dist};
+use std::hint::black_box;
 use std::time::Instant;
 
-// The tolerances of crates/bench.
-#[cfg(published)]
+// The section tolerance and the general tolerance.
 const T: f64 = 0.000001;
 const G: f64 = 0.01;
 const SLOTS: usize = 1024;
 // A row is run this often at least, and for this long at least.
 const ROUNDS: usize = 25;
 const SECONDS: f64 = 0.6;
-
-unsafe extern "C" {
-    fn bench_nearest(section: *const f64, n: usize, ps: *const f64, k: usize) -> f64;
-    fn bench_crossings(section: *const f64, n: usize, lines: *const f64, k: usize) -> f64;
-    fn bench_march(section: *const f64, n: usize, line: *const f64, k: usize, store: *mut f64, m: usize) -> u32;
-    fn bench_extraction(section: *const f64, n: usize, line: *const f64, k: usize, store: *mut f64, m: usize) -> u32;
-    fn bench_open_edge(section: *const f64, n: usize, count: usize, at_front: u64, store: *mut f64, m: usize, out: *mut f64, k: usize) -> u32;
-}
 
 // A blade-like section: an ellipse of chord 100 and thickness 12 on a parabola, closed at its tip or open there.
 fn blade(edges: usize, open: bool) -> Vec<f64> {
@@ -126,27 +123,44 @@ fn run_row(row: Row, mut columns: Vec<Column>, once: bool) -> Left {
 
 // ---- passes over a section
 
-fn plain_nearest(section: &[f64], ps: &[f64]) -> f64 {
-    ps.chunks_exact(2).fold(0.0, |sum, p| sum + plain::nearest(section, p[0], p[1]).4)
-}
-
-fn plain_crossings(section: &[f64], lines: &[f64]) -> f64 {
-    lines.chunks_exact(4).fold(0.0, |sum, l| {
-        let k = plain::crossing(section, line_at(l));
-        sum + k.map_or(0.0, |k| k.dx + k.dy)
-    })
-}
-
 fn line_at(l: &[f64]) -> Line {
     Line { ox: l[0], oy: l[1], dx: l[2], dy: l[3] }
 }
 
-fn port_nearest(section: &[f64], ps: &[f64]) -> f64 {
-    unsafe { bench_nearest(section.as_ptr(), section.len(), ps.as_ptr(), ps.len()) }
+// Sums over questions: of tolerances, whether the section is closed; of points, the squared distance, the direction, the fraction and the edge of the nearest
+// station; of lines, the direction of the crossing.
+fn tests(tols: &[f64], is_closed: impl Fn(f64) -> Option<bool>) -> f64 {
+    tols.iter().fold(0.0, |sum, t| sum + is_closed(*t).map_or(2.0, |yes| yes as u32 as f64))
 }
 
-fn port_crossings(section: &[f64], lines: &[f64]) -> f64 {
-    unsafe { bench_crossings(section.as_ptr(), section.len(), lines.as_ptr(), lines.len()) }
+fn nearest(ps: &[f64], station: impl Fn(f64, f64) -> Option<([f64; 5], usize)>) -> f64 {
+    ps.chunks_exact(2).fold(0.0, |sum, p| {
+        let Some(([x, y, dx, dy, f], i)) = station(p[0], p[1]) else { return sum };
+        let (vx, vy) = (p[0] - x, p[1] - y);
+        sum + (vx * vx + vy * vy) + (dx + dy) + f + i as f64
+    })
+}
+
+fn crossings(lines: &[f64], crossing: impl Fn(Line) -> Option<[f64; 4]>) -> f64 {
+    lines.chunks_exact(4).fold(0.0, |sum, l| sum + crossing(line_at(l)).map_or(0.0, |k| k[2] + k[3]))
+}
+
+fn port_is_closed(section: &[f64], tol: f64) -> Option<bool> {
+    let mut yes = false;
+    let number = unsafe { rummyteak_is_closed(section.as_ptr(), section.len(), tol, &mut yes) };
+    (number == 0).then_some(yes)
+}
+
+fn port_station(section: &[f64], x: f64, y: f64) -> Option<([f64; 5], usize)> {
+    let (mut station, mut index) = ([0.0; 5], 0);
+    let number = unsafe { rummyteak_at_closest_to_point(section.as_ptr(), section.len(), T, x, y, station.as_mut_ptr(), &mut index) };
+    (number == 0).then_some((station, index))
+}
+
+fn port_crossing(section: &[f64], l: Line) -> Option<[f64; 4]> {
+    let mut crossing = [0.0; 4];
+    let number = unsafe { rummyteak_crossing_line(section.as_ptr(), section.len(), T, l.ox, l.oy, l.dx, l.dy, crossing.as_mut_ptr()) };
+    (number == 0).then_some(crossing)
 }
 
 // Every question alone first, compared by bits, then all of them for the time.
@@ -176,13 +190,25 @@ fn passes(edges: usize, open: bool, once: bool) {
         ps.extend([x, y]);
         lines.extend([x, y, 0.03, 1.0]);
     }
+    let tols = vec![T; k];
     let passed = k * edges;
-    let port = |ps: &[f64]| port_nearest(&section, ps);
-    let plain = |ps: &[f64]| plain_nearest(&section, ps);
+    let port = |tols: &[f64]| tests(tols, |t| port_is_closed(&section, t));
+    let plain = |tols: &[f64]| tests(tols, |t| plain::is_closed(black_box(&section), t));
+    #[cfg(published)]
+    let rust = |tols: &[f64]| tests(tols, |t| Some(published::curve(black_box(&section), t).is_closed()));
+    let answers: &[&dyn Fn(&[f64]) -> f64] = &[
+        &port,
+        #[cfg(published)]
+        &rust,
+        &plain,
+    ];
+    pass(Row { name: "tests", shape, edges, per: Per::Edge(passed) }, &tols, 1, answers, once);
+    let port = |ps: &[f64]| nearest(ps, |x, y| port_station(&section, x, y));
+    let plain = |ps: &[f64]| nearest(ps, |x, y| plain::closest(black_box(&section), T, x, y));
     #[cfg(published)]
     let curve = published::curve(&section, T);
     #[cfg(published)]
-    let rust = |ps: &[f64]| published::nearest(&curve, ps);
+    let rust = |ps: &[f64]| nearest(ps, |x, y| Some(published::closest(&curve, x, y)));
     let answers: &[&dyn Fn(&[f64]) -> f64] = &[
         &port,
         #[cfg(published)]
@@ -190,10 +216,10 @@ fn passes(edges: usize, open: bool, once: bool) {
         &plain,
     ];
     pass(Row { name: "nearest", shape, edges, per: Per::Edge(passed) }, &ps, 2, answers, once);
-    let port = |lines: &[f64]| port_crossings(&section, lines);
-    let plain = |lines: &[f64]| plain_crossings(&section, lines);
+    let port = |lines: &[f64]| crossings(lines, |l| port_crossing(&section, l));
+    let plain = |lines: &[f64]| crossings(lines, |l| plain::crossing_line(black_box(&section), T, l).map(|k| [k.ox, k.oy, k.dx, k.dy]));
     #[cfg(published)]
-    let rust = |lines: &[f64]| published::crossings(&curve, G, lines);
+    let rust = |lines: &[f64]| crossings(lines, |l| published::crossing(&curve, G, [l.ox, l.oy, l.dx, l.dy]));
     let answers: &[&dyn Fn(&[f64]) -> f64] = &[
         &port,
         #[cfg(published)]
@@ -233,8 +259,12 @@ fn run(edges: usize, open: bool, whole: bool, once: bool) -> Left {
     let columns: Vec<Column> = vec![
         Box::new(move || {
             let mut store = store_of(std::iter::empty());
-            let proved = if whole { bench_extraction } else { bench_march };
-            let (time, units) = timed(|| unsafe { proved(section.as_ptr(), section.len(), line.as_ptr(), 4, store.as_mut_ptr(), store.len()) });
+            let (mut count, mut units) = (0, 0);
+            let [ox, oy, dx, dy] = line;
+            let (p, n, s, l) = (section.as_ptr(), section.len(), store.as_mut_ptr(), store.len());
+            let proved = if whole { rummyteak_extract_circles } else { rummyteak_march };
+            let (time, number) = timed(|| unsafe { proved(p, n, T, G, ox, oy, dx, dy, s, l, u32::MAX, &mut count, &mut units) });
+            assert_eq!(number, 0);
             (time, Left { numbers: store, units })
         }),
         #[cfg(published)]
@@ -244,9 +274,12 @@ fn run(edges: usize, open: bool, whole: bool, once: bool) -> Left {
         }),
         Box::new(move || {
             let mut units = 0;
-            let (time, list) = timed(|| match whole {
-                true => plain::extraction(section, G, line_at(&line), SLOTS, u32::MAX, &mut units),
-                false => plain::march(section, G, line_at(&line), SLOTS, u32::MAX, &mut units).0,
+            let (time, list) = timed(|| {
+                assert!(plain::enters_run(section, T, G, &line));
+                match whole {
+                    true => plain::extraction(section, G, line_at(&line), SLOTS, u32::MAX, &mut units),
+                    false => plain::march(section, G, line_at(&line), SLOTS, u32::MAX, &mut units).0,
+                }
             });
             (time, Left { numbers: store_of(list.iter().map(plain_numbers)), units })
         }),
@@ -264,11 +297,11 @@ fn edge(edges: usize, extracted: &Left, once: bool) {
     let curve = &published::curve(section, T);
     let columns: Vec<Column> = vec![
         Box::new(move || {
-            let (mut store, mut out) = (store.to_vec(), [f64::NAN; 2]);
-            let (time, units) = timed(|| unsafe {
-                bench_open_edge(section.as_ptr(), section.len(), count, 1, store.as_mut_ptr(), store.len(), out.as_mut_ptr(), 2)
-            });
-            store.extend(out);
+            let (mut store, mut point, mut left, mut units) = (store.to_vec(), [f64::NAN; 2], 0, 0);
+            let (p, n, s, l, o) = (section.as_ptr(), section.len(), store.as_mut_ptr(), store.len(), point.as_mut_ptr());
+            let (time, number) = timed(|| unsafe { rummyteak_fit_open_edge(p, n, T, G, s, l, count, true, u32::MAX, o, &mut left, &mut units) });
+            assert_eq!(number, 0);
+            store.extend(point);
             (time, Left { numbers: store, units })
         }),
         #[cfg(published)]
@@ -281,7 +314,10 @@ fn edge(edges: usize, extracted: &Left, once: bool) {
         }),
         Box::new(move || {
             let mut list: Vec<_> = circles().map(plain_circle).collect();
-            let (time, (point, units)) = timed(|| plain::open_edge(section, G, &mut list, true, SLOTS, u32::MAX));
+            let (time, (point, units)) = timed(|| {
+                assert!(plain::enters_run(section, T, G, &store[..7 * count]));
+                plain::open_edge(section, G, &mut list, true, SLOTS, u32::MAX)
+            });
             let mut numbers = store_of(list.iter().map(plain_numbers));
             numbers.extend([point.0, point.1]);
             (time, Left { numbers, units })

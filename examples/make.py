@@ -1,4 +1,4 @@
-"""Makes the four sections beside this file from published formulas: the four-digit thickness and camber lines of NACA (Report 460), and a plain wafer.
+"""Makes the four sections beside this file from published formulas: the four-digit thickness and camber lines of NACA (Report 460).
 
 Run it in any folder: python3 examples/make.py. It writes the .dat files anew, the same bytes each time."""
 
@@ -51,12 +51,6 @@ def noisy(points: List[Point], size: float) -> List[Point]:
     return out
 
 
-def wafer() -> List[Point]:
-    """A plain strip, 40 by 0.8, with its corners, open at its right end."""
-    top = [(40.0 - k, 0.8) for k in range(0, 41)]
-    return top + [(float(k), 0.0) for k in range(0, 41)]
-
-
 def write(name: str, title: str, points: List[Point]) -> None:
     text = title + "\n" + "".join(f"{x:.6f} {y:.6f}\n" for x, y in points)
     (HERE / name).write_text(text, encoding="utf-8")
@@ -66,4 +60,4 @@ if __name__ == "__main__":
     write("thick.dat", "a thick symmetric section, NACA 0024, chord 60", four_digit(60, 0, 0, 0.24, 61, True))
     write("compressor.dat", "a cambered compressor blade with measuring noise, NACA 6409, chord 40", noisy(four_digit(40, 0.06, 0.4, 0.09, 80, True), 0.002))
     write("open.dat", "a cambered blade with an open trailing edge, NACA 4415 cut at 0.95 of its chord, chord 50", four_digit(50, 0.04, 0.4, 0.15, 60, False, 0.95))
-    write("wafer.dat", "a thin wafer, 40 by 0.8, open at one end", wafer())
+    write("wafer.dat", "a thin wafer, 0.4 mm at its thickest, NACA 2402, chord 20", four_digit(20, 0.02, 0.4, 0.02, 61, True))

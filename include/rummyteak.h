@@ -122,7 +122,7 @@ uint32_t rummyteak_crossing_line(const double *section, size_t section_len, doub
 uint32_t rummyteak_joined_crossing(const double *section, size_t section_len, double tol, double ox, double oy,
                                    double dx, double dy, double *crossing);
 
-/* ---- one circle or two; circle, a and b are 7 numbers */
+/* ---- one circle or two; circle, a and b are RUMMYTEAK_WIDTH numbers */
 
 /* The circle of a line that is a crossing. */
 uint32_t rummyteak_inscribed_from_crossing(const double *section, size_t section_len, double section_tol, double tol,
@@ -153,7 +153,7 @@ uint32_t rummyteak_extract_circles(const double *section, size_t section_len, do
 
 /* ---- a list of circles */
 
-/* The first and the last circle, 7 numbers each. */
+/* The first and the last circle, RUMMYTEAK_WIDTH numbers each. */
 uint32_t rummyteak_front_and_back(const double *store, size_t store_len, size_t count, double *front, double *back);
 
 /* The place of the thickest circle, the last of equal ones. */

@@ -1,11 +1,9 @@
-// The proved functions, by the one export of crates/compare. Each call gives the words told and the numbers put out.
-type Numbers = *const f64;
-type Out = *mut f64;
-type Told = *mut u64;
+// The proved functions, by the C interface (include/rummyteak.h). Each call gives the words told and the numbers put out.
+use crate::interface::*;
 
-unsafe extern "C" {
-    fn ask(kind: u64, p: Numbers, n: usize, a: Numbers, k: usize, place: usize, how: u64, limit: u32, s: Out, l: usize, o: Out, m: usize, t: Told, w: usize);
-}
+// How many numbers a circle has.
+const WIDTH: usize = 7;
+const NO_LIMIT: u32 = u32::MAX;
 
 // The function asked, with what it takes beside the section and the numbers of `args`.
 #[derive(Clone, Copy, Debug, PartialEq)]
@@ -42,7 +40,7 @@ pub enum Call {
     OrientUpperLower(u64, usize),
 }
 
-// What a call leaves: the words told, the numbers put out, and the store.
+// What a call leaves: the words told (the number first, 99 where a trial adds nothing), the numbers put out, and the store.
 pub struct Answer {
     pub told: [u64; 3],
     pub out: Vec<f64>,
@@ -56,46 +54,59 @@ pub fn call(call: Call, section: &[f64], args: &[f64], store: &[f64]) -> Answer 
     let room = match call {
         Call::FromPoints(_) | Call::Reversed => section.len() + 4,
         Call::CamberCurve(count) | Call::MakeCamberCurve(count) => 2 * count + 8,
-        _ => 14,
+        _ => 2 * WIDTH,
     };
     let mut out = vec![REST; room];
     let mut store = store.to_vec();
-    let mut told = [0u64; 3];
-    // The number of the function, as crates/compare has them, a count, vertex or edge, and a yes or no.
-    let (kind, place, how) = match call {
-        Call::FromPoints(force) => (0, 0, force as u64),
-        Call::Reversed => (1, 0, 0),
-        Call::CamberCurve(count) => (2, count, 0),
-        Call::MakeCamberCurve(count) => (3, count, 0),
-        Call::IsClosed => (4, 0, 0),
-        Call::IsOpenAtEnd(count, front) => (5, count, front as u64),
-        Call::OrientFwdAft(how, count) => (6 + how, count, 0),
-        Call::OrientUpperLower(how, count) => (9 + how, count, 0),
-        Call::Length => (11, 0, 0),
-        Call::LengthAlong(index) => (12, index, 0),
-        Call::Spacing(count) => (13, count, 0),
-        Call::AtFront => (15, 0, 0),
-        Call::AtBack => (16, 0, 0),
-        Call::AtVertex(index) => (17, index, 0),
-        Call::AtLength => (18, 0, 0),
-        Call::Closest => (19, 0, 0),
-        Call::CrossingLine => (20, 0, 0),
-        Call::ClipLine(count) => (22, count, 0),
-        Call::FromCrossing => (23, 0, 0),
-        Call::TryInscribed => (24, 0, 0),
-        Call::Refined => (25, 0, 0),
-        Call::RefineAndPush(count) => (26, count, 0),
-        Call::March => (27, 0, 0),
-        Call::Extract => (28, 0, 0),
-        Call::FitOpenEdge(count, front) => (29, count, front as u64),
-        Call::Tmax(count) => (30, count, 0),
-        Call::FrontAndBack(count) => (31, count, 0),
-        Call::ReversePoints(count) => (32, count, 0),
-        Call::ReverseOrder(count) => (33, count, 0),
-        Call::ReverseOrderOnly(count) => (34, count, 0),
+    let (mut count, mut units, mut yes) = (0usize, 0u32, false);
+    let (p, n, s, l, o, m) = (section.as_ptr(), section.len(), store.as_mut_ptr(), store.len(), out.as_mut_ptr(), out.len());
+    // The two tolerances, then a length, a point, a vector or a line; or circles.
+    let [t, g, x, y, dx, dy] = std::array::from_fn(|i| args.get(i).copied().unwrap_or(f64::NAN));
+    let circle = |k: usize| args[2 + k * WIDTH..][..WIDTH].as_ptr();
+    let number = unsafe {
+        match call {
+            Call::FromPoints(force) => rummyteak_from_points(p, n, t, force, o, m, &mut count, &mut yes),
+            Call::Reversed => rummyteak_reversed(p, n, t, o, m, &mut count, &mut yes),
+            Call::IsClosed => rummyteak_is_closed(p, n, t, &mut yes),
+            Call::Length => rummyteak_length(p, n, t, o),
+            Call::AtFront => rummyteak_at_front(p, n, t, o, &mut count),
+            Call::AtBack => rummyteak_at_back(p, n, t, o, &mut count),
+            Call::AtVertex(index) => rummyteak_at_vertex(p, n, t, index, o, &mut count),
+            Call::AtLength => rummyteak_at_length(p, n, t, x, o, &mut count),
+            Call::LengthAlong(index) => rummyteak_length_along(p, n, t, index, x, o),
+            Call::Closest => rummyteak_at_closest_to_point(p, n, t, x, y, o, &mut count),
+            Call::CrossingLine => rummyteak_crossing_line(p, n, t, x, y, dx, dy, o),
+            Call::FromCrossing => rummyteak_inscribed_from_crossing(p, n, t, g, x, y, dx, dy, o),
+            Call::TryInscribed => rummyteak_try_inscribed(p, n, t, g, x, y, dx, dy, o),
+            Call::Refined => match rummyteak_inscribed_refined(p, n, t, g, circle(0), circle(1), o, &mut yes) {
+                0 if !yes => 99,
+                number => number,
+            },
+            Call::RefineAndPush(stated) => rummyteak_refine_and_push(p, n, t, g, s, l, stated, circle(0), NO_LIMIT, &mut count, &mut units),
+            Call::March => rummyteak_march(p, n, t, g, x, y, dx, dy, s, l, NO_LIMIT, &mut count, &mut units),
+            Call::Extract => rummyteak_extract_circles(p, n, t, g, x, y, dx, dy, s, l, NO_LIMIT, &mut count, &mut units),
+            Call::FitOpenEdge(stated, front) => rummyteak_fit_open_edge(p, n, t, g, s, l, stated, front, NO_LIMIT, o, &mut count, &mut units),
+            Call::IsOpenAtEnd(stated, front) => rummyteak_is_open_at_end(p, n, t, g, s, l, stated, front, &mut yes),
+            Call::Tmax(stated) => rummyteak_index_of_tmax(s, l, stated, &mut count),
+            Call::Spacing(stated) => rummyteak_average_spacing(s, l, stated, o),
+            Call::ClipLine(stated) => rummyteak_end_clip_line(s, l, stated, o),
+            Call::FrontAndBack(stated) => rummyteak_front_and_back(s, l, stated, o, o.add(WIDTH)),
+            Call::ReversePoints(stated) => rummyteak_reverse_points(s, l, stated),
+            Call::ReverseOrder(stated) => rummyteak_reverse_order(s, l, stated),
+            Call::ReverseOrderOnly(stated) => rummyteak_reverse_order_only(s, l, stated),
+            Call::CamberCurve(stated) => rummyteak_camber_curve(s, l, stated, t, o, m, &mut count, &mut yes),
+            Call::MakeCamberCurve(stated) => rummyteak_make_camber_curve(x, y, dx, dy, s, l, stated, t, o, m, &mut count, &mut yes),
+            Call::OrientFwdAft(0, stated) => rummyteak_orient_tmax_fwd(s, l, stated, &mut yes),
+            Call::OrientFwdAft(1, stated) => rummyteak_orient_airflow(x, y, s, l, stated, &mut yes),
+            Call::OrientFwdAft(_, stated) => rummyteak_orient_fwd(x, y, s, l, stated, &mut yes),
+            Call::OrientUpperLower(0, stated) => rummyteak_orient_upper(x, y, s, l, stated, &mut yes),
+            Call::OrientUpperLower(_, stated) => rummyteak_orient_lower(x, y, s, l, stated, &mut yes),
+        }
     };
-    let (p, n, a, k) = (section.as_ptr(), section.len(), args.as_ptr(), args.len());
-    let (o, m, t, w) = (out.as_mut_ptr(), out.len(), told.as_mut_ptr(), told.len());
-    unsafe { ask(kind, p, n, a, k, place, how, u32::MAX, store.as_mut_ptr(), store.len(), o, m, t, w) }
-    Answer { told, out, store }
+    let (first, second) = match call {
+        Call::FromPoints(_) | Call::Reversed | Call::CamberCurve(_) | Call::MakeCamberCurve(_) => (count as u64, yes as u64),
+        Call::IsClosed | Call::IsOpenAtEnd(..) | Call::OrientFwdAft(..) | Call::OrientUpperLower(..) => (yes as u64, 0),
+        _ => (count as u64, units as u64),
+    };
+    Answer { told: [number as u64, first, second], out, store }
 }

@@ -1,5 +1,7 @@
-/* Calls every function of the C interface on good and bad input. Buffers are exactly as long as stated and come from
- * malloc, so that the address sanitizer sees a step beyond them; what a refusal must leave alone is filled with a mark. */
+/* Calls every function of the C interface on good and bad input. Buffers are exactly as long as stated. Behind each lies
+ * a page without access, so that a step beyond it ends the program, in the library too, which the sanitizers don't see
+ * into; in front of it stand marks. What a refusal must leave alone is filled with a mark. */
+#define _DEFAULT_SOURCE
 #include "../include/rummyteak.h"
 
 #include <inttypes.h>
@@ -7,6 +9,10 @@
 #include <stdio.h>
 #include <stdlib.h>
 #include <string.h>
+#include <sys/mman.h>
+#include <unistd.h>
+
+#define W RUMMYTEAK_WIDTH
 
 static int checks, wrong;
 
@@ -36,17 +42,46 @@ static bool same(const double *a, const double *b, size_t n)
     return true;
 }
 
-/* A buffer of n numbers, all of them the mark. */
 static const double MARK = -12345.0;
 
+/* The buffers that are lent: where the pages begin, the numbers, and how many pages' bytes there are. */
+static struct {
+    double *pages, *p;
+    size_t bytes;
+} lent[64];
+
+/* A buffer of n numbers, all of them the mark, that ends where a page without access begins. */
 static double *marked(size_t n)
 {
-    double *p = malloc(n ? n * sizeof *p : 1);
-    if (!p)
+    size_t page = (size_t)sysconf(_SC_PAGESIZE), bytes = (n * sizeof(double) / page + 1) * page, k = 0;
+    char *pages = mmap(NULL, bytes + page, PROT_READ | PROT_WRITE, MAP_PRIVATE | MAP_ANONYMOUS, -1, 0);
+    while (k < 64 && lent[k].p)
+        k++;
+    if (pages == MAP_FAILED || k == 64 || mprotect(pages + bytes, page, PROT_NONE) != 0)
         exit(2);
-    for (size_t i = 0; i < n; i++)
-        p[i] = MARK;
-    return p;
+    lent[k].pages = (double *)pages;
+    lent[k].p = (double *)(pages + bytes) - n;
+    lent[k].bytes = bytes + page;
+    for (double *q = lent[k].pages; q < lent[k].p + n; q++)
+        *q = MARK;
+    return lent[k].p;
+}
+
+/* Gives a buffer back; nothing may have been written in front of it. */
+static void release(double *p)
+{
+    for (size_t k = 0; k < 64; k++) {
+        if (!p || lent[k].p != p)
+            continue;
+        bool kept = true;
+        for (double *q = lent[k].pages; q < p; q++)
+            kept = kept && bits(*q) == bits(MARK);
+        EXPECT(kept);
+        munmap(lent[k].pages, lent[k].bytes);
+        lent[k].p = NULL;
+        return;
+    }
+    exit(2);
 }
 
 static double *copy(const double *a, size_t n)
@@ -88,7 +123,8 @@ static void cleaning(void)
 {
     const double four[] = {0, 0, 0.5, 0, 1, 0, 1.5, 0};
     const double two[] = {0, 0, 1, 0};
-    double *points = copy(four, 8), *out = marked(10), *back = marked(RLEN), *r = copy(R, RLEN);
+    double *points = copy(four, 8), *half = copy(four, 4), *odd = copy(four, 7), *r = copy(R, RLEN);
+    double *out = marked(10), *tight = marked(9), *back = marked(RLEN), *little = marked(RLEN - 1);
     size_t count = 77;
     bool closed = true;
     EXPECT(rummyteak_from_points(points, 8, 0.5, false, out, 10, &count, &closed) == 0);
@@ -96,28 +132,26 @@ static void cleaning(void)
     for (size_t i = 0; i < 10; i++)
         out[i] = MARK;
     count = 77, closed = true;
-    EXPECT(rummyteak_from_points(points, 4, 0.5, false, out, 10, &count, &closed) == 5);
-    EXPECT(rummyteak_from_points(points, 8, 0.5, false, out, 9, &count, &closed) == 4);
-    EXPECT(rummyteak_from_points(points, 7, 0.5, false, out, 10, &count, &closed) == 1);
+    EXPECT(rummyteak_from_points(half, 4, 0.5, false, out, 10, &count, &closed) == 5);
+    EXPECT(rummyteak_from_points(points, 8, 0.5, false, tight, 9, &count, &closed) == 4);
+    EXPECT(rummyteak_from_points(odd, 7, 0.5, false, out, 10, &count, &closed) == 1);
     EXPECT(rummyteak_from_points(points, 8, -1, false, out, 10, &count, &closed) == 3);
     EXPECT(rummyteak_from_points(NULL, 0, 0.5, false, NULL, 0, &count, &closed) == 1);
-    EXPECT(count == 77 && closed && untouched(out, 0, 10));
+    EXPECT(count == 77 && closed && untouched(out, 0, 10) && untouched(tight, 0, 9));
     EXPECT(rummyteak_reversed(r, RLEN, T, back, RLEN, &count, &closed) == 0);
     EXPECT(count == 5 && closed && back[2] == 0 && back[3] == 2);
-    for (size_t i = 0; i < RLEN; i++)
-        back[i] = MARK;
-    EXPECT(rummyteak_reversed(r, RLEN, T, back, RLEN - 1, &count, &closed) == 4 && untouched(back, 0, RLEN));
-    free(points), free(out), free(back), free(r);
+    EXPECT(rummyteak_reversed(r, RLEN, T, little, RLEN - 1, &count, &closed) == 4 && untouched(little, 0, RLEN - 1));
+    release(points), release(half), release(odd), release(r), release(out), release(tight), release(back), release(little);
 }
 
 static void sections(void)
 {
-    double *r = copy(R, RLEN), *station = marked(5), *crossing = marked(4), x = MARK;
+    double *r = copy(R, RLEN), *u = copy(R, ULEN), *odd = copy(R, 3), *station = marked(5), *crossing = marked(4), x = MARK;
     size_t index = 77;
     bool yes = false;
     EXPECT(rummyteak_is_closed(r, RLEN, T, &yes) == 0 && yes);
-    EXPECT(rummyteak_is_closed(r, ULEN, T, &yes) == 0 && !yes);
-    EXPECT(rummyteak_is_closed(r, 3, T, &yes) == 1 && !yes);
+    EXPECT(rummyteak_is_closed(u, ULEN, T, &yes) == 0 && !yes);
+    EXPECT(rummyteak_is_closed(odd, 3, T, &yes) == 1 && !yes);
     EXPECT(rummyteak_length(r, RLEN, T, &x) == 0 && x == 20);
     EXPECT(rummyteak_length(r, RLEN, NAN, &x) == 3 && x == 20);
     EXPECT(rummyteak_at_length(r, RLEN, T, 9, station, &index) == 0);
@@ -129,9 +163,11 @@ static void sections(void)
     EXPECT(rummyteak_at_length(r, RLEN, T, -0.5, station, &index) == 9);
     EXPECT(rummyteak_at_vertex(r, RLEN, T, 5, station, &index) == 4);
     EXPECT(rummyteak_at_closest_to_point(r, RLEN, T, INFINITY, 0, station, &index) == 2);
+    EXPECT(rummyteak_at_front(odd, 3, T, station, &index) == 1);
+    EXPECT(rummyteak_at_back(r, RLEN, -1, station, &index) == 3);
     EXPECT(index == 77 && untouched(station, 0, 5));
     EXPECT(rummyteak_at_front(r, RLEN, T, station, &index) == 0 && station[0] == 0 && index == 0);
-    EXPECT(rummyteak_at_back(r, ULEN, T, station, &index) == 0 && station[1] == 2 && station[4] == 1);
+    EXPECT(rummyteak_at_back(u, ULEN, T, station, &index) == 0 && station[1] == 2 && station[4] == 1);
     EXPECT(rummyteak_at_vertex(r, RLEN, T, 1, station, &index) == 0 && station[0] == 8 && index == 1);
     EXPECT(rummyteak_at_closest_to_point(r, RLEN, T, 4, -1, station, &index) == 0 && station[0] == 4 && station[1] == 0);
     EXPECT(rummyteak_length_along(r, RLEN, T, 1, 0.5, &x) == 0 && x == 9);
@@ -144,146 +180,153 @@ static void sections(void)
     EXPECT(rummyteak_joined_crossing(r, RLEN, T, 4, 1, 4, 1, crossing) == 0);
     EXPECT(crossing[0] == 0 && crossing[1] == 0 && crossing[2] == 8 && crossing[3] == 2);
     EXPECT(rummyteak_joined_crossing(r, RLEN, T, 20, 1, 0, 1, crossing) == 8);
-    free(r), free(station), free(crossing);
+    release(r), release(u), release(odd), release(station), release(crossing);
 }
 
 static void circles(void)
 {
     const double want[] = {4, 1.00048828125, 0.99951171875, 4, 0, 4, 2};
-    double *r = copy(R, RLEN), *c = marked(7), *a = copy(PAIR, 7), *b = copy(PAIR + 7, 7);
+    double *r = copy(R, RLEN), *c = marked(W), *a = copy(PAIR, W), *b = copy(PAIR + W, W);
     bool added = true;
-    EXPECT(rummyteak_inscribed_from_crossing(r, RLEN, T, G, 4, 0, 0, 2, c) == 0 && same(c, want, 7));
-    EXPECT(rummyteak_try_inscribed(r, RLEN, T, G, 4, 1, 0, 1, c) == 0 && same(c, want, 7));
-    for (size_t i = 0; i < 7; i++)
+    EXPECT(rummyteak_inscribed_from_crossing(r, RLEN, T, G, 4, 0, 0, 2, c) == 0 && same(c, want, W));
+    EXPECT(rummyteak_try_inscribed(r, RLEN, T, G, 4, 1, 0, 1, c) == 0 && same(c, want, W));
+    for (size_t i = 0; i < W; i++)
         c[i] = MARK;
     EXPECT(rummyteak_try_inscribed(r, RLEN, T, G, 20, 1, 0, 1, c) == 8);
     EXPECT(rummyteak_inscribed_from_crossing(r, RLEN, T, 1e-7, 4, 0, 0, 2, c) == 3);
-    EXPECT(rummyteak_inscribed_refined(r, RLEN, T, G, a, b, c, &added) == 0 && !added && untouched(c, 0, 7));
+    EXPECT(rummyteak_inscribed_refined(r, RLEN, T, G, a, b, c, &added) == 0 && !added && untouched(c, 0, W));
     a[2] = -1, added = true;
-    EXPECT(rummyteak_inscribed_refined(r, RLEN, T, G, a, b, c, &added) == 2 && added && untouched(c, 0, 7));
-    free(r), free(c), free(a), free(b);
+    EXPECT(rummyteak_inscribed_refined(r, RLEN, T, G, a, b, c, &added) == 2 && added && untouched(c, 0, W));
+    release(r), release(c), release(a), release(b);
 }
 
 static void runs(void)
 {
-    double *r = copy(R, RLEN), *circle = copy(PAIR + 7, 7);
+    double *r = copy(R, RLEN), *odd = copy(R, 5), *circle = copy(PAIR + W, W);
     size_t count = 77, full = 77;
     uint32_t units = 77, all = 77;
-    double *big = marked(7 * 200), *small = marked(7 * 200), *none = marked(6);
-    EXPECT(rummyteak_march(r, RLEN, T, G, 4, 1, 0, 1, big, 7 * 200, RUMMYTEAK_NO_LIMIT, &full, &all) != 77);
-    EXPECT(full > 0 && all > 0 && untouched(big, 7 * full, 7 * 200));
+    double *big = marked(W * 200), *small = marked(W * 200), *none = marked(W - 1);
+    EXPECT(rummyteak_march(r, RLEN, T, G, 4, 1, 0, 1, big, W * 200, RUMMYTEAK_NO_LIMIT, &full, &all) == 0);
+    EXPECT(full > 0 && all > 0 && untouched(big, W * full, W * 200));
     for (uint32_t limit = 0; limit <= all + 1; limit++) {
-        for (size_t i = 0; i < 7 * 200; i++)
+        for (size_t i = 0; i < W * 200; i++)
             small[i] = MARK;
-        uint32_t n = rummyteak_march(r, RLEN, T, G, 4, 1, 0, 1, small, 7 * 200, limit, &count, &units);
+        uint32_t n = rummyteak_march(r, RLEN, T, G, 4, 1, 0, 1, small, W * 200, limit, &count, &units);
         EXPECT((n == 14) == (limit < all) && units == (limit < all ? limit : all));
-        EXPECT(count <= full && same(small, big, 7 * count) && untouched(small, 7 * count, 7 * 200));
+        EXPECT(count <= full && same(small, big, W * count) && untouched(small, W * count, W * 200));
     }
     count = 77, units = 77;
-    EXPECT(rummyteak_march(r, RLEN, T, G, 4, 1, 0, 1, none, 6, 9, &count, &units) == 15 && count == 0 && units == 0);
-    EXPECT(rummyteak_march(r, RLEN, T, G, 20, 1, 0, 1, none, 6, 9, &count, &units) == 8 && count == 0 && units == 0);
+    EXPECT(rummyteak_march(r, RLEN, T, G, 4, 1, 0, 1, none, W - 1, 9, &count, &units) == 15 && count == 0 && units == 0);
+    EXPECT(rummyteak_march(r, RLEN, T, G, 20, 1, 0, 1, none, W - 1, 9, &count, &units) == 8 && count == 0 && units == 0);
     count = 77, units = 77;
-    EXPECT(rummyteak_march(r, RLEN, T, NAN, 4, 1, 0, 1, none, 6, 9, &count, &units) == 3 && count == 77 && units == 77);
-    EXPECT(rummyteak_extract_circles(r, 5, T, G, 4, 1, 0, 1, none, 6, 9, &count, &units) == 1 && count == 77);
-    EXPECT(untouched(none, 0, 6));
-    EXPECT(rummyteak_extract_circles(r, RLEN, T, G, 4, 1, 0, 1, big, 7 * 200, 9, &count, &units) == 14 && units == 9);
-    double *store = marked(21);
-    memcpy(store, PAIR, 7 * sizeof *store);
-    EXPECT(rummyteak_refine_and_push(r, RLEN, T, G, store, 21, 1, circle, 100, &count, &units) == 0);
-    EXPECT(count == 2 && units == 1 && same(store, PAIR, 14) && untouched(store, 14, 21));
+    EXPECT(rummyteak_march(r, RLEN, T, NAN, 4, 1, 0, 1, none, W - 1, 9, &count, &units) == 3 && count == 77 && units == 77);
+    EXPECT(rummyteak_extract_circles(odd, 5, T, G, 4, 1, 0, 1, none, W - 1, 9, &count, &units) == 1 && count == 77);
+    EXPECT(untouched(none, 0, W - 1));
+    for (size_t i = 0; i < W * 200; i++)
+        big[i] = MARK;
+    EXPECT(rummyteak_extract_circles(r, RLEN, T, G, 4, 1, 0, 1, big, W * 200, RUMMYTEAK_NO_LIMIT, &count, &units) == 0);
+    EXPECT(count > full && units > all && untouched(big, W * count, W * 200));
+    EXPECT(rummyteak_extract_circles(r, RLEN, T, G, 4, 1, 0, 1, big, W * 200, 9, &count, &units) == 14 && units == 9);
+    double *store = marked(3 * W), *full_store = copy(PAIR, 2 * W);
+    memcpy(store, PAIR, W * sizeof *store);
+    EXPECT(rummyteak_refine_and_push(r, RLEN, T, G, store, 3 * W, 1, circle, 100, &count, &units) == 0);
+    EXPECT(count == 2 && units == 1 && same(store, PAIR, 2 * W) && untouched(store, 2 * W, 3 * W));
     count = 77, units = 77;
-    EXPECT(rummyteak_refine_and_push(r, RLEN, T, G, store, 14, 3, circle, 100, &count, &units) == 4);
-    EXPECT(rummyteak_refine_and_push(r, RLEN, T, G, store, 14, SIZE_MAX, circle, 100, &count, &units) == 4);
-    EXPECT(rummyteak_refine_and_push(r, RLEN, T, G, store, 21, 3, circle, 100, &count, &units) == 2);
-    EXPECT(count == 77 && units == 77 && same(store, PAIR, 14) && untouched(store, 14, 21));
-    free(r), free(circle), free(big), free(small), free(none), free(store);
+    EXPECT(rummyteak_refine_and_push(r, RLEN, T, G, full_store, 2 * W, 3, circle, 100, &count, &units) == 4);
+    EXPECT(rummyteak_refine_and_push(r, RLEN, T, G, full_store, 2 * W, SIZE_MAX, circle, 100, &count, &units) == 4);
+    EXPECT(rummyteak_refine_and_push(r, RLEN, T, G, store, 3 * W, 3, circle, 100, &count, &units) == 2);
+    EXPECT(count == 77 && units == 77 && same(store, PAIR, 2 * W) && untouched(store, 2 * W, 3 * W) && same(full_store, PAIR, 2 * W));
+    release(r), release(odd), release(full_store), release(circle), release(big), release(small), release(none), release(store);
 }
 
 static void lists(void)
 {
-    double *store = copy(PAIR, 14), *front = marked(7), *back = marked(7), *line = marked(4), x = MARK;
+    double *store = copy(PAIR, 2 * W), *front = marked(W), *back = marked(W), *line = marked(4), x = MARK;
     size_t place = 77, first = 77, numbers = 77;
-    EXPECT(rummyteak_front_and_back(store, 14, 2, front, back) == 0 && same(front, PAIR, 7) && same(back, PAIR + 7, 7));
-    for (size_t i = 0; i < 7; i++)
+    EXPECT(rummyteak_front_and_back(store, 2 * W, 2, front, back) == 0 && same(front, PAIR, W) && same(back, PAIR + W, W));
+    for (size_t i = 0; i < W; i++)
         front[i] = back[i] = MARK;
-    EXPECT(rummyteak_front_and_back(store, 14, 0, front, back) == 7 && untouched(front, 0, 7) && untouched(back, 0, 7));
-    EXPECT(rummyteak_index_of_tmax(store, 14, 2, &place) == 0 && place == 1);
-    EXPECT(rummyteak_index_of_tmax(store, 14, 3, &place) == 4 && place == 1);
-    EXPECT(rummyteak_average_spacing(store, 14, 2, &x) == 0 && x == 1);
-    EXPECT(rummyteak_average_spacing(store, 14, 1, &x) == 7 && x == 1);
-    EXPECT(rummyteak_end_clip_line(store, 14, 2, line) == 0 && line[2] == 1);
-    EXPECT(rummyteak_end_clip_line(store, 14, 1, line) == 7);
-    EXPECT(rummyteak_circles_from(store, 14, 2, 1, &first, &numbers) == 0 && first == 7 && numbers == 7);
-    EXPECT(rummyteak_circles_from(store, 14, 2, 2, &first, &numbers) == 0 && numbers == 0);
+    EXPECT(rummyteak_front_and_back(store, 2 * W, 0, front, back) == 7 && untouched(front, 0, W) && untouched(back, 0, W));
+    EXPECT(rummyteak_index_of_tmax(store, 2 * W, 2, &place) == 0 && place == 1);
+    EXPECT(rummyteak_index_of_tmax(store, 2 * W, 3, &place) == 4 && place == 1);
+    EXPECT(rummyteak_average_spacing(store, 2 * W, 2, &x) == 0 && x == 1);
+    EXPECT(rummyteak_average_spacing(store, 2 * W, 1, &x) == 7 && x == 1);
+    EXPECT(rummyteak_end_clip_line(store, 2 * W, 2, line) == 0 && line[2] == 1);
+    EXPECT(rummyteak_end_clip_line(store, 2 * W, 1, line) == 7);
+    EXPECT(rummyteak_circles_from(store, 2 * W, 2, 1, &first, &numbers) == 0 && first == W && numbers == W);
+    EXPECT(rummyteak_circles_from(store, 2 * W, 2, 2, &first, &numbers) == 0 && numbers == 0);
     first = numbers = 77;
-    EXPECT(rummyteak_circles_from(store, 14, 2, 3, &first, &numbers) == 4 && first == 77 && numbers == 77);
-    EXPECT(rummyteak_reverse_points(store, 14, 2) == 0 && store[4] == 2 && store[6] == 0);
-    EXPECT(rummyteak_reverse_order(store, 14, 2) == 0 && same(store, PAIR + 7, 7));
-    EXPECT(rummyteak_reverse_order_only(store, 14, 2) == 0 && same(store, PAIR, 14));
-    EXPECT(rummyteak_reverse_order_only(store, 14, 9) == 4 && same(store, PAIR, 14));
+    EXPECT(rummyteak_circles_from(store, 2 * W, 2, 3, &first, &numbers) == 4 && first == 77 && numbers == 77);
+    EXPECT(rummyteak_reverse_points(store, 2 * W, 2) == 0 && store[4] == 2 && store[6] == 0);
+    EXPECT(rummyteak_reverse_order(store, 2 * W, 2) == 0 && same(store, PAIR + W, W));
+    EXPECT(rummyteak_reverse_order_only(store, 2 * W, 2) == 0 && same(store, PAIR, 2 * W));
+    EXPECT(rummyteak_reverse_order_only(store, 2 * W, 9) == 4 && same(store, PAIR, 2 * W));
     store[0] = NAN;
-    EXPECT(rummyteak_index_of_tmax(store, 14, 2, &place) == 2);
-    EXPECT(rummyteak_reverse_points(store, 14, 2) == 2 && store[4] == 0);
-    free(store), free(front), free(back), free(line);
+    EXPECT(rummyteak_index_of_tmax(store, 2 * W, 2, &place) == 2);
+    EXPECT(rummyteak_reverse_points(store, 2 * W, 2) == 2 && store[4] == 0);
+    EXPECT(rummyteak_reverse_order(store, 2 * W, 2) == 2 && same(store + W, PAIR + W, W));
+    release(store), release(front), release(back), release(line);
 }
 
 static void curves(void)
 {
-    double *store = copy(PAIR, 14), *out = marked(10);
+    double *store = copy(PAIR, 2 * W), *six = marked(6), *five = marked(5), *out = marked(10);
     size_t kept = 77;
     bool closed = true;
-    EXPECT(rummyteak_camber_curve(store, 14, 2, T, out, 6, &kept, &closed) == 0 && kept == 2 && !closed);
-    EXPECT(out[0] == 4 && out[3] == 1 && untouched(out, 4, 10));
-    EXPECT(rummyteak_make_camber_curve(0, 1, 8, 1, store, 14, 2, T, out, 10, &kept, &closed) == 0 && kept == 4);
+    EXPECT(rummyteak_camber_curve(store, 2 * W, 2, T, six, 6, &kept, &closed) == 0 && kept == 2 && !closed);
+    EXPECT(six[0] == 4 && six[3] == 1 && untouched(six, 4, 6));
+    EXPECT(rummyteak_make_camber_curve(0, 1, 8, 1, store, 2 * W, 2, T, out, 10, &kept, &closed) == 0 && kept == 4);
     EXPECT(out[0] == 0 && out[6] == 8 && untouched(out, 8, 10));
     kept = 77;
-    EXPECT(rummyteak_camber_curve(store, 14, 2, T, out, 5, &kept, &closed) == 4);
-    EXPECT(rummyteak_make_camber_curve(0, 2e6, 8, 1, store, 14, 2, T, out, 10, &kept, &closed) == 2 && kept == 77);
-    free(store), free(out);
+    EXPECT(rummyteak_camber_curve(store, 2 * W, 2, T, five, 5, &kept, &closed) == 4 && untouched(five, 0, 5));
+    EXPECT(rummyteak_make_camber_curve(0, 2e6, 8, 1, store, 2 * W, 2, T, out, 10, &kept, &closed) == 2 && kept == 77);
+    release(store), release(six), release(five), release(out);
 }
 
 static void orientation(void)
 {
-    double *store = copy(PAIR, 14);
+    double *store = copy(PAIR, 2 * W);
     bool yes = false;
-    EXPECT(rummyteak_orient_lower(1, 0, store, 14, 2, &yes) == 0 && yes && store[4] == 2);
-    EXPECT(rummyteak_orient_upper(0, -1, store, 14, 2, &yes) == 0 && !yes && store[4] == 2);
-    EXPECT(rummyteak_orient_upper(0, 1, store, 14, 2, &yes) == 0 && yes && same(store, PAIR, 14));
-    EXPECT(rummyteak_orient_fwd(1, 0, store, 14, 2, &yes) == 0 && yes && store[0] == 5);
-    EXPECT(rummyteak_orient_airflow(1, 0, store, 14, 2, &yes) == 0 && yes && same(store, PAIR, 14));
-    EXPECT(rummyteak_orient_tmax_fwd(store, 14, 2, &yes) == 0);
-    double *one = copy(PAIR, 7);
+    EXPECT(rummyteak_orient_lower(1, 0, store, 2 * W, 2, &yes) == 0 && yes && store[4] == 2);
+    EXPECT(rummyteak_orient_upper(0, -1, store, 2 * W, 2, &yes) == 0 && !yes && store[4] == 2);
+    EXPECT(rummyteak_orient_upper(0, 1, store, 2 * W, 2, &yes) == 0 && yes && same(store, PAIR, 2 * W));
+    EXPECT(rummyteak_orient_fwd(1, 0, store, 2 * W, 2, &yes) == 0 && yes && store[0] == 5);
+    EXPECT(rummyteak_orient_airflow(1, 0, store, 2 * W, 2, &yes) == 0 && yes && same(store, PAIR, 2 * W));
+    EXPECT(rummyteak_orient_tmax_fwd(store, 2 * W, 2, &yes) == 0);
+    double *one = copy(PAIR, W);
     yes = true;
-    EXPECT(rummyteak_orient_fwd(1, 0, one, 7, 1, &yes) == 7 && yes && same(one, PAIR, 7));
-    EXPECT(rummyteak_orient_airflow(NAN, 0, one, 7, 1, &yes) == 2 && yes);
-    EXPECT(rummyteak_orient_tmax_fwd(one, 7, 2, &yes) == 4 && yes);
-    free(store), free(one);
+    EXPECT(rummyteak_orient_fwd(1, 0, one, W, 1, &yes) == 7 && yes && same(one, PAIR, W));
+    EXPECT(rummyteak_orient_airflow(NAN, 0, one, W, 1, &yes) == 2 && yes);
+    EXPECT(rummyteak_orient_upper(0, 1, one, W, 0, &yes) == 7 && yes);
+    EXPECT(rummyteak_orient_lower(0, INFINITY, one, W, 1, &yes) == 2 && yes && same(one, PAIR, W));
+    EXPECT(rummyteak_orient_tmax_fwd(one, W, 2, &yes) == 4 && yes);
+    release(store), release(one);
 }
 
 static void edges(void)
 {
     const double three[] = {2, 1.00048828125, 0.99951171875, 2, 0, 2, 2};
-    double *r = copy(R, ULEN), *closed = copy(R, RLEN), *store = marked(21), *point = marked(2);
+    double *r = copy(R, ULEN), *closed = copy(R, RLEN), *store = marked(3 * W), *point = marked(2);
     size_t count = 77;
     uint32_t units = 77;
     bool open = false;
     memcpy(store, PAIR, sizeof PAIR);
-    EXPECT(rummyteak_is_open_at_end(r, ULEN, T, G, store, 21, 2, true, &open) == 0 && open);
-    EXPECT(rummyteak_is_open_at_end(closed, RLEN, T, G, store, 21, 2, true, &open) == 0 && !open);
+    EXPECT(rummyteak_is_open_at_end(r, ULEN, T, G, store, 3 * W, 2, true, &open) == 0 && open);
+    EXPECT(rummyteak_is_open_at_end(closed, RLEN, T, G, store, 3 * W, 2, true, &open) == 0 && !open);
     open = true;
-    EXPECT(rummyteak_is_open_at_end(r, ULEN, T, G, store, 21, 1, true, &open) == 7 && open);
-    EXPECT(rummyteak_fit_open_edge(r, ULEN, T, G, store, 21, 2, true, 0, point, &count, &units) == 14);
-    EXPECT(count == 2 && units == 0 && untouched(point, 0, 2) && same(store, PAIR, 14) && untouched(store, 14, 21));
-    EXPECT(rummyteak_fit_open_edge(r, ULEN, T, G, store, 21, 2, false, 1, point, &count, &units) == 20);
-    EXPECT(rummyteak_fit_open_edge(r, ULEN, T, G, store, 21, 2, true, 1, point, &count, &units) == 0);
+    EXPECT(rummyteak_is_open_at_end(r, ULEN, T, G, store, 3 * W, 1, true, &open) == 7 && open);
+    EXPECT(rummyteak_fit_open_edge(r, ULEN, T, G, store, 3 * W, 2, true, 0, point, &count, &units) == 14);
+    EXPECT(count == 2 && units == 0 && untouched(point, 0, 2) && same(store, PAIR, 2 * W) && untouched(store, 2 * W, 3 * W));
+    EXPECT(rummyteak_fit_open_edge(r, ULEN, T, G, store, 3 * W, 2, false, 1, point, &count, &units) == 20);
+    EXPECT(rummyteak_fit_open_edge(r, ULEN, T, G, store, 3 * W, 2, true, 1, point, &count, &units) == 0);
     EXPECT(count == 3 && units == 1 && point[0] == 0 && point[1] == 1.00048828125);
-    EXPECT(same(store, three, 7) && same(store + 7, PAIR, 14));
-    EXPECT(rummyteak_fit_open_edge(closed, RLEN, T, G, store, 21, 3, true, 1, point, &count, &units) == 17);
+    EXPECT(same(store, three, W) && same(store + W, PAIR, 2 * W));
+    EXPECT(rummyteak_fit_open_edge(closed, RLEN, T, G, store, 3 * W, 3, true, 1, point, &count, &units) == 17);
     EXPECT(count == 3 && units == 0);
     count = 77, units = 77;
-    EXPECT(rummyteak_fit_open_edge(r, ULEN, T, G, store, 21, 4, true, 1, point, &count, &units) == 4);
+    EXPECT(rummyteak_fit_open_edge(r, ULEN, T, G, store, 3 * W, 4, true, 1, point, &count, &units) == 4);
     EXPECT(count == 77 && units == 77);
-    free(r), free(closed), free(store), free(point);
+    release(r), release(closed), release(store), release(point);
 }
 
 int main(void)

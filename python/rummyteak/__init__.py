@@ -3,20 +3,25 @@
 Each function calls the proved library. What it refuses is an exception, Refused, with the number and its words. A run (refine_and_push, march,
 extract_circles, fit_open_edge) that began returns its circles whichever way it ended.
 
-Points may be a list of pairs, a flat list of numbers, or anything with the buffer protocol that holds float64 numbers (an array.array('d'), a
-contiguous numpy array); such a buffer is read where it stands, and copied only where it is read-only.
+Points, and a section, may be a list of pairs, a flat list of numbers, a Curve2, or anything with the buffer protocol, flat or of pairs. A buffer of
+contiguous float64 numbers (an array.array('d'), a numpy array) is read where it stands, and copied only where it is read-only; another one is converted.
+Circles are any sequence of Inscribed. A number of a wrong type is a TypeError, a whole number out of its range or points that are no pairs a ValueError.
+
+No call holds state, and other threads run while the library works.
 """
 
 from __future__ import annotations
 
 import ctypes
+import sys
+from array import array
 from dataclasses import dataclass
-from typing import Any, Iterable, List, Optional, Sequence, Tuple, Union
+from typing import Any, Iterable, List, NamedTuple, Optional, Sequence, Tuple, Union
 
-from ._library import SLOTS, WIDTH, WORDS, call
+from ._library import NO_LIMIT, SLOTS, WORDS, call, real, whole
 
 __all__ = [
-    "Refused", "Curve", "Station", "Line", "Circle", "Run", "Fit", "NO_LIMIT", "SLOTS", "WIDTH", "WORDS",
+    "Refused", "Curve2", "CurveStation2", "Line2", "Inscribed", "Run", "Fit", "NO_LIMIT", "SLOTS", "WIDTH", "WORDS",
     "sqrt", "from_points", "reversed", "is_closed", "length", "at_front", "at_back", "at_vertex", "at_length", "at_closest_to_point",
     "length_along", "crossing_line", "joined_crossing", "inscribed_from_crossing", "try_inscribed", "inscribed_refined",
     "refine_and_push", "march", "extract_circles", "front_and_back", "index_of_tmax", "average_spacing", "end_clip_line",
@@ -24,33 +29,33 @@ __all__ = [
     "orient_tmax_fwd", "orient_airflow", "orient_fwd", "orient_upper", "orient_lower", "is_open_at_end", "fit_open_edge",
 ]
 
-NO_LIMIT = 4_294_967_295
-
-Points = Union[Sequence[Any], "memoryview", Any]
-
 
 class Refused(Exception):
     """What the library refused: `number` is the ending, `words` say it."""
 
     def __init__(self, number: int) -> None:
+        super().__init__(number)
         self.number = number
         self.words = WORDS.get(number, "an ending without a name")
-        super().__init__(f"{number}: {self.words}")
+
+    def __str__(self) -> str:
+        return f"{self.number}: {self.words}"
 
 
 @dataclass(frozen=True)
-class Curve:
+class Curve2:
     """A cleaned curve: its numbers x, y, x, y and so on, and whether its ends meet."""
 
-    numbers: Tuple[float, ...]
+    numbers: "array[float]"
     is_closed: bool
 
     def points(self) -> List[Tuple[float, float]]:
+        """The points as pairs."""
         return list(zip(self.numbers[::2], self.numbers[1::2]))
 
 
 @dataclass(frozen=True)
-class Station:
+class CurveStation2:
     """A place on a section: its point, its direction, its edge and the fraction of it."""
 
     x: float
@@ -61,8 +66,7 @@ class Station:
     fraction: float
 
 
-@dataclass(frozen=True)
-class Line:
+class Line2(NamedTuple):
     """An origin and a direction."""
 
     ox: float
@@ -71,9 +75,8 @@ class Line:
     dy: float
 
 
-@dataclass(frozen=True)
-class Circle:
-    """Centre, radius, and both contacts."""
+class Inscribed(NamedTuple):
+    """An inscribed circle: centre, radius and both contacts, in stored order."""
 
     cx: float
     cy: float
@@ -83,8 +86,29 @@ class Circle:
     p1x: float
     p1y: float
 
-    def numbers(self) -> Tuple[float, ...]:
-        return (self.cx, self.cy, self.r, self.p0x, self.p0y, self.p1x, self.p1y)
+    @property
+    def center(self) -> Tuple[float, float]:
+        """The centre."""
+        return (self.cx, self.cy)
+
+    @property
+    def radius(self) -> float:
+        """The radius."""
+        return self.r
+
+    @property
+    def p0(self) -> Tuple[float, float]:
+        """The first contact."""
+        return (self.p0x, self.p0y)
+
+    @property
+    def p1(self) -> Tuple[float, float]:
+        """The second contact."""
+        return (self.p1x, self.p1y)
+
+
+# Numbers to a circle.
+WIDTH = len(Inscribed._fields)
 
 
 @dataclass(frozen=True)
@@ -92,11 +116,12 @@ class Run:
     """A run that began: how it ended (0 finished, 14 spent, else refused), its circles, and the units it took."""
 
     number: int
-    circles: Tuple[Circle, ...]
+    circles: Tuple[Inscribed, ...]
     units: int
 
     @property
     def ending(self) -> str:
+        """The ending in words."""
         return WORDS[self.number]
 
 
@@ -106,52 +131,81 @@ class Fit:
 
     number: int
     point: Optional[Tuple[float, float]]
-    circles: Tuple[Circle, ...]
+    circles: Tuple[Inscribed, ...]
     units: int
 
     @property
     def ending(self) -> str:
+        """The ending in words."""
         return WORDS[self.number]
+
+
+Points = Union[Curve2, Sequence[float], Sequence[Sequence[float]], Any]
+Circles = Sequence[Inscribed]
+Line = Union[Line2, Sequence[float]]
 
 
 # ---- numbers in and out
 
+_OWN_ORDER = "<" if sys.byteorder == "little" else ">"
+_Single = ctypes.c_double * WIDTH
 
-def _numbers(points: Points) -> Tuple[Any, int, Any]:
-    """A pointer, a length, and what keeps the numbers alive."""
+
+def _flat(points: Iterable[Any]) -> Any:
+    """The numbers of a list of numbers or of pairs, as a ctypes array."""
+    if isinstance(points, (str, bytes, bytearray)):
+        raise TypeError("points are numbers or pairs of numbers, not text or bytes")
+    flat: List[float] = []
+    in_pairs = False
+    for k, item in enumerate(points):
+        if k == 0:
+            in_pairs = hasattr(item, "__len__") and not isinstance(item, str)
+        if not in_pairs:
+            flat.append(real("points", item))
+            continue
+        try:
+            x, y = item
+        except (TypeError, ValueError):
+            raise ValueError(f"points: place {k} is no pair of numbers: {item!r}") from None
+        flat += (real("points", x), real("points", y))
+    return (ctypes.c_double * len(flat))(*flat)
+
+
+def _numbers(points: Points) -> Any:
+    """The numbers of the points as a ctypes array, which keeps them alive. A writable buffer of float64 numbers is not copied."""
+    data: Any = points.numbers if isinstance(points, Curve2) else points
     try:
-        view = memoryview(points)
+        view = memoryview(data)
     except TypeError:
-        view = None
-    if view is not None and view.format == "d" and view.c_contiguous:
-        n = view.nbytes // 8
-        if n == 0:
-            return None, 0, view
-        if view.readonly:
-            flat = view.cast("B")
-            held = (ctypes.c_double * n).from_buffer_copy(flat)
-            return held, n, held
-        return (ctypes.c_double * n).from_buffer(view.cast("B")), n, view
-    flat_list: List[float] = []
-    for item in points:
-        if isinstance(item, (int, float)):
-            flat_list.append(float(item))
-        else:
-            flat_list.extend(float(x) for x in item)
-    held = (ctypes.c_double * len(flat_list))(*flat_list)
-    return held, len(flat_list), held
+        return _flat(data)
+    shape = view.shape or ()
+    kind = view.format.lstrip("@=" + _OWN_ORDER)
+    if kind in ("B", "b", "c", "?"):
+        raise TypeError(f"points are numbers: a buffer of format {view.format!r} holds bytes")
+    if len(shape) not in (1, 2) or (len(shape) == 2 and shape[1] != 2):
+        raise ValueError(f"points are x, y pairs: a buffer of shape {shape} holds none")
+    if kind == "d" and view.c_contiguous and view.nbytes:
+        array_type = ctypes.c_double * (view.nbytes // 8)
+        return array_type.from_buffer_copy(view) if view.readonly else array_type.from_buffer(view)
+    try:
+        return _flat(view.tolist())
+    except NotImplementedError:
+        return _flat(data)
 
 
-def _stored(circles: Iterable[Circle], slots: int) -> Any:
+def _stored(circles: Circles, slots: int = 0) -> Any:
     """A store of at least so many slots that begins with the circles."""
-    flat = [x for c in circles for x in c.numbers()]
-    store = (ctypes.c_double * max(WIDTH * slots, len(flat)))()
+    flat = [x for c in circles for x in c]
+    if any(len(c) != WIDTH for c in circles):
+        raise ValueError(f"a circle is {WIDTH} numbers")
+    store: Any = (ctypes.c_double * max(WIDTH * whole("slots", slots, 2**31), len(flat)))()
     store[: len(flat)] = flat
     return store
 
 
-def _circles(store: Any, count: int) -> Tuple[Circle, ...]:
-    return tuple(Circle(*store[WIDTH * k : WIDTH * k + WIDTH]) for k in range(count))
+def _circles(store: Any, count: int) -> Tuple[Inscribed, ...]:
+    flat = store[: WIDTH * count]
+    return tuple(Inscribed(*flat[k : k + WIDTH]) for k in range(0, len(flat), WIDTH))
 
 
 def _ask(name: str, *args: Any) -> None:
@@ -160,11 +214,12 @@ def _ask(name: str, *args: Any) -> None:
         raise Refused(number)
 
 
-def _line(line: Union[Line, Sequence[float]]) -> Tuple[float, float, float, float]:
-    if isinstance(line, Line):
-        return (line.ox, line.oy, line.dx, line.dy)
-    ox, oy, dx, dy = line
-    return (float(ox), float(oy), float(dx), float(dy))
+def _line(line: Line) -> Tuple[Any, Any, Any, Any]:
+    try:
+        ox, oy, dx, dy = line
+    except (TypeError, ValueError):
+        raise ValueError(f"a line is four numbers, an origin and a direction, not {line!r}") from None
+    return ox, oy, dx, dy
 
 
 # ---- the square root
@@ -180,22 +235,22 @@ def sqrt(x: float) -> float:
 # ---- cleaning
 
 
-def from_points(points: Points, tol: float, force_closed: bool = False) -> Curve:
+def from_points(points: Points, tol: float, force_closed: bool = False) -> Curve2:
     """The cleaned curve of the points."""
-    p, n, _ = _numbers(points)
-    out = (ctypes.c_double * (n + 2))()
+    p = _numbers(points)
+    out = (ctypes.c_double * (len(p) + 2))()
     count, closed = ctypes.c_size_t(), ctypes.c_bool()
-    _ask("from_points", p, n, tol, force_closed, out, n + 2, count, closed)
-    return Curve(tuple(out[: 2 * count.value]), closed.value)
+    _ask("from_points", p, len(p), tol, force_closed, out, len(out), count, closed)
+    return Curve2(array("d", out[: 2 * count.value]), closed.value)
 
 
-def reversed(section: Points, tol: float) -> Curve:
+def reversed(section: Points, tol: float) -> Curve2:
     """The section's points backwards."""
-    p, n, _ = _numbers(section)
-    out = (ctypes.c_double * max(n, 1))()
+    p = _numbers(section)
+    out = (ctypes.c_double * len(p))()
     count, closed = ctypes.c_size_t(), ctypes.c_bool()
-    _ask("reversed", p, n, tol, out, n, count, closed)
-    return Curve(tuple(out[: 2 * count.value]), closed.value)
+    _ask("reversed", p, len(p), tol, out, len(out), count, closed)
+    return Curve2(array("d", out[: 2 * count.value]), closed.value)
 
 
 # ---- a section
@@ -203,74 +258,74 @@ def reversed(section: Points, tol: float) -> Curve:
 
 def is_closed(section: Points, tol: float) -> bool:
     """Whether the ends meet within the tolerance."""
-    p, n, _ = _numbers(section)
+    p = _numbers(section)
     answer = ctypes.c_bool()
-    _ask("is_closed", p, n, tol, answer)
+    _ask("is_closed", p, len(p), tol, answer)
     return answer.value
 
 
 def length(section: Points, tol: float) -> float:
     """The length of the whole."""
-    p, n, _ = _numbers(section)
+    p = _numbers(section)
     answer = ctypes.c_double()
-    _ask("length", p, n, tol, answer)
+    _ask("length", p, len(p), tol, answer)
     return answer.value
 
 
-def _station(name: str, section: Points, tol: float, *place: Any) -> Station:
-    p, n, _ = _numbers(section)
+def _station(name: str, section: Points, tol: float, *place: Any) -> CurveStation2:
+    p = _numbers(section)
     numbers, index = (ctypes.c_double * 5)(), ctypes.c_size_t()
-    _ask(name, p, n, tol, *place, numbers, index)
+    _ask(name, p, len(p), tol, *place, numbers, index)
     x, y, dx, dy, fraction = numbers
-    return Station(x, y, dx, dy, index.value, fraction)
+    return CurveStation2(x, y, dx, dy, index.value, fraction)
 
 
-def at_front(section: Points, tol: float) -> Station:
+def at_front(section: Points, tol: float) -> CurveStation2:
     """The station at the first point."""
     return _station("at_front", section, tol)
 
 
-def at_back(section: Points, tol: float) -> Station:
+def at_back(section: Points, tol: float) -> CurveStation2:
     """The station at the last point."""
     return _station("at_back", section, tol)
 
 
-def at_vertex(section: Points, tol: float, vertex: int) -> Station:
+def at_vertex(section: Points, tol: float, vertex: int) -> CurveStation2:
     """The station at a vertex."""
     return _station("at_vertex", section, tol, vertex)
 
 
-def at_length(section: Points, tol: float, length: float) -> Station:
+def at_length(section: Points, tol: float, length: float) -> CurveStation2:
     """The station at a length along."""
     return _station("at_length", section, tol, length)
 
 
-def at_closest_to_point(section: Points, tol: float, x: float, y: float) -> Station:
+def at_closest_to_point(section: Points, tol: float, x: float, y: float) -> CurveStation2:
     """The nearest station to a point."""
     return _station("at_closest_to_point", section, tol, x, y)
 
 
 def length_along(section: Points, tol: float, index: int, fraction: float) -> float:
     """The length along of a fraction of an edge."""
-    p, n, _ = _numbers(section)
+    p = _numbers(section)
     answer = ctypes.c_double()
-    _ask("length_along", p, n, tol, index, fraction, answer)
+    _ask("length_along", p, len(p), tol, index, fraction, answer)
     return answer.value
 
 
-def _crossing(name: str, section: Points, tol: float, line: Union[Line, Sequence[float]]) -> Line:
-    p, n, _ = _numbers(section)
+def _crossing(name: str, section: Points, tol: float, line: Line) -> Line2:
+    p = _numbers(section)
     numbers = (ctypes.c_double * 4)()
-    _ask(name, p, n, tol, *_line(line), numbers)
-    return Line(*numbers)
+    _ask(name, p, len(p), tol, *_line(line), numbers)
+    return Line2(*numbers)
 
 
-def crossing_line(section: Points, tol: float, line: Union[Line, Sequence[float]]) -> Line:
+def crossing_line(section: Points, tol: float, line: Line) -> Line2:
     """The crossing of a line that has exactly two hits: from the first to the second."""
     return _crossing("crossing_line", section, tol, line)
 
 
-def joined_crossing(section: Points, tol: float, line: Union[Line, Sequence[float]]) -> Line:
+def joined_crossing(section: Points, tol: float, line: Line) -> Line2:
     """The same with hits near each other counted as one."""
     return _crossing("joined_crossing", section, tol, line)
 
@@ -278,126 +333,125 @@ def joined_crossing(section: Points, tol: float, line: Union[Line, Sequence[floa
 # ---- one circle or two
 
 
-def _circle(name: str, section: Points, section_tol: float, tol: float, line: Union[Line, Sequence[float]]) -> Circle:
-    p, n, _ = _numbers(section)
-    numbers = (ctypes.c_double * WIDTH)()
-    _ask(name, p, n, section_tol, tol, *_line(line), numbers)
-    return Circle(*numbers)
+def _circle(name: str, section: Points, section_tol: float, tol: float, line: Line) -> Inscribed:
+    p = _numbers(section)
+    numbers = _Single()
+    _ask(name, p, len(p), section_tol, tol, *_line(line), numbers)
+    return Inscribed(*numbers)
 
 
-def inscribed_from_crossing(section: Points, section_tol: float, tol: float, line: Union[Line, Sequence[float]]) -> Circle:
+def inscribed_from_crossing(section: Points, section_tol: float, tol: float, line: Line) -> Inscribed:
     """The circle of a line that is a crossing."""
     return _circle("inscribed_from_crossing", section, section_tol, tol, line)
 
 
-def try_inscribed(section: Points, section_tol: float, tol: float, line: Union[Line, Sequence[float]]) -> Circle:
+def try_inscribed(section: Points, section_tol: float, tol: float, line: Line) -> Inscribed:
     """The circle on a line."""
     return _circle("try_inscribed", section, section_tol, tol, line)
 
 
-def inscribed_refined(section: Points, section_tol: float, tol: float, a: Circle, b: Circle) -> Optional[Circle]:
+def inscribed_refined(section: Points, section_tol: float, tol: float, a: Inscribed, b: Inscribed) -> Optional[Inscribed]:
     """The trial between two circles, a the earlier: the circle to add, or None."""
-    p, n, _ = _numbers(section)
-    seven = ctypes.c_double * WIDTH
-    numbers, added = seven(), ctypes.c_bool()
-    _ask("inscribed_refined", p, n, section_tol, tol, seven(*a.numbers()), seven(*b.numbers()), numbers, added)
-    return Circle(*numbers) if added.value else None
+    p = _numbers(section)
+    numbers, added = _Single(), ctypes.c_bool()
+    _ask("inscribed_refined", p, len(p), section_tol, tol, _stored([a]), _stored([b]), numbers, added)
+    return Inscribed(*numbers) if added.value else None
 
 
 # ---- runs within a limit of units
 
 
+# Stands in a count where a run that is refused on entry writes nothing.
+_UNTOLD = 2**64 - 1
+
+
 def _run(name: str, store: Any, *args: Any) -> Run:
-    count, units = ctypes.c_size_t(2**64 - 1), ctypes.c_uint32()
+    count, units = ctypes.c_size_t(_UNTOLD), ctypes.c_uint32()
     number = call(name, *args, count, units)
-    if count.value == 2**64 - 1:
+    if count.value == _UNTOLD:
         raise Refused(number)
     return Run(number, _circles(store, count.value), units.value)
 
 
 def refine_and_push(
-    section: Points, section_tol: float, tol: float, circles: Sequence[Circle], circle: Circle, limit: int = NO_LIMIT, slots: int = SLOTS
+    section: Points, section_tol: float, tol: float, circles: Circles, circle: Inscribed, limit: int = NO_LIMIT, slots: int = SLOTS
 ) -> Run:
     """A circle offered to a list, refined until none waits."""
-    p, n, _ = _numbers(section)
+    p = _numbers(section)
     store = _stored(circles, slots)
-    offered = (ctypes.c_double * WIDTH)(*circle.numbers())
-    return _run("refine_and_push", store, p, n, section_tol, tol, store, len(store), len(circles), offered, limit)
+    return _run("refine_and_push", store, p, len(p), section_tol, tol, store, len(store), len(circles), _stored([circle]), limit)
 
 
-def march(section: Points, section_tol: float, tol: float, line: Union[Line, Sequence[float]], limit: int = NO_LIMIT, slots: int = SLOTS) -> Run:
+def march(section: Points, section_tol: float, tol: float, line: Line, limit: int = NO_LIMIT, slots: int = SLOTS) -> Run:
     """The circles on one side of a line."""
-    p, n, _ = _numbers(section)
+    p = _numbers(section)
     store = _stored((), slots)
-    return _run("march", store, p, n, section_tol, tol, *_line(line), store, len(store), limit)
+    return _run("march", store, p, len(p), section_tol, tol, *_line(line), store, len(store), limit)
 
 
-def extract_circles(
-    section: Points, section_tol: float, tol: float, line: Union[Line, Sequence[float]], limit: int = NO_LIMIT, slots: int = SLOTS
-) -> Run:
+def extract_circles(section: Points, section_tol: float, tol: float, line: Line, limit: int = NO_LIMIT, slots: int = SLOTS) -> Run:
     """The circles on both sides of a line."""
-    p, n, _ = _numbers(section)
+    p = _numbers(section)
     store = _stored((), slots)
-    return _run("extract_circles", store, p, n, section_tol, tol, *_line(line), store, len(store), limit)
+    return _run("extract_circles", store, p, len(p), section_tol, tol, *_line(line), store, len(store), limit)
 
 
 # ---- a list of circles
 
 
-def front_and_back(circles: Sequence[Circle]) -> Tuple[Circle, Circle]:
+def front_and_back(circles: Circles) -> Tuple[Inscribed, Inscribed]:
     """The first and the last circle."""
-    store = _stored(circles, 0)
-    seven = ctypes.c_double * WIDTH
-    front, back = seven(), seven()
+    store = _stored(circles)
+    front, back = _Single(), _Single()
     _ask("front_and_back", store, len(store), len(circles), front, back)
-    return Circle(*front), Circle(*back)
+    return Inscribed(*front), Inscribed(*back)
 
 
-def index_of_tmax(circles: Sequence[Circle]) -> int:
+def index_of_tmax(circles: Circles) -> int:
     """The place of the thickest circle, the last of equal ones."""
-    store, place = _stored(circles, 0), ctypes.c_size_t()
+    store, place = _stored(circles), ctypes.c_size_t()
     _ask("index_of_tmax", store, len(store), len(circles), place)
     return place.value
 
 
-def average_spacing(circles: Sequence[Circle]) -> float:
+def average_spacing(circles: Circles) -> float:
     """The average distance of neighbouring centres."""
-    store, spacing = _stored(circles, 0), ctypes.c_double()
+    store, spacing = _stored(circles), ctypes.c_double()
     _ask("average_spacing", store, len(store), len(circles), spacing)
     return spacing.value
 
 
-def end_clip_line(circles: Sequence[Circle]) -> Line:
+def end_clip_line(circles: Circles) -> Line2:
     """The clip line at the last circles."""
-    store, numbers = _stored(circles, 0), (ctypes.c_double * 4)()
+    store, numbers = _stored(circles), (ctypes.c_double * 4)()
     _ask("end_clip_line", store, len(store), len(circles), numbers)
-    return Line(*numbers)
+    return Line2(*numbers)
 
 
-def _turned(name: str, circles: Sequence[Circle]) -> Tuple[Circle, ...]:
-    store = _stored(circles, 0)
+def _turned(name: str, circles: Circles) -> Tuple[Inscribed, ...]:
+    store = _stored(circles)
     _ask(name, store, len(store), len(circles))
     return _circles(store, len(circles))
 
 
-def reverse_points(circles: Sequence[Circle]) -> Tuple[Circle, ...]:
+def reverse_points(circles: Circles) -> Tuple[Inscribed, ...]:
     """Both contacts of each circle swapped."""
     return _turned("reverse_points", circles)
 
 
-def reverse_order_only(circles: Sequence[Circle]) -> Tuple[Circle, ...]:
+def reverse_order_only(circles: Circles) -> Tuple[Inscribed, ...]:
     """The order turned; each circle keeps its contacts."""
     return _turned("reverse_order_only", circles)
 
 
-def reverse_order(circles: Sequence[Circle]) -> Tuple[Circle, ...]:
+def reverse_order(circles: Circles) -> Tuple[Inscribed, ...]:
     """The order turned and the contacts swapped."""
     return _turned("reverse_order", circles)
 
 
-def circles_from(circles: Sequence[Circle], place: int) -> Tuple[Circle, ...]:
+def circles_from(circles: Circles, place: int) -> Tuple[Inscribed, ...]:
     """The circles from a place on."""
-    store = _stored(circles, 0)
+    store = _stored(circles)
     first, numbers = ctypes.c_size_t(), ctypes.c_size_t()
     _ask("circles_from", store, len(store), len(circles), place, first, numbers)
     return tuple(circles[first.value // WIDTH : (first.value + numbers.value) // WIDTH])
@@ -406,55 +460,55 @@ def circles_from(circles: Sequence[Circle], place: int) -> Tuple[Circle, ...]:
 # ---- camber curves
 
 
-def _curve(name: str, ends: Sequence[float], circles: Sequence[Circle], tol: float) -> Curve:
-    store = _stored(circles, 0)
-    room = 2 * (len(circles) + len(ends) // 2) + 2
-    out = (ctypes.c_double * room)()
+def _curve(name: str, ends: Sequence[float], circles: Circles, tol: float) -> Curve2:
+    store = _stored(circles)
+    out = (ctypes.c_double * (2 * len(circles) + len(ends) + 2))()
     kept, closed = ctypes.c_size_t(), ctypes.c_bool()
-    _ask(name, *ends, store, len(store), len(circles), tol, out, room, kept, closed)
-    return Curve(tuple(out[: 2 * kept.value]), closed.value)
+    _ask(name, *ends, store, len(store), len(circles), tol, out, len(out), kept, closed)
+    return Curve2(array("d", out[: 2 * kept.value]), closed.value)
 
 
-def camber_curve(circles: Sequence[Circle], tol: float) -> Curve:
+def camber_curve(circles: Circles, tol: float) -> Curve2:
     """The curve through the centres."""
     return _curve("camber_curve", (), circles, tol)
 
 
-def make_camber_curve(le_point: Tuple[float, float], te_point: Tuple[float, float], circles: Sequence[Circle], tol: float) -> Curve:
+def make_camber_curve(le_point: Tuple[float, float], te_point: Tuple[float, float], circles: Circles, tol: float) -> Curve2:
     """The same from the leading edge point to the trailing edge point."""
-    return _curve("make_camber_curve", (*le_point, *te_point), circles, tol)
+    (le_x, le_y), (te_x, te_y) = le_point, te_point
+    return _curve("make_camber_curve", (le_x, le_y, te_x, te_y), circles, tol)
 
 
 # ---- orientation
 
 
-def _oriented(name: str, vector: Sequence[float], circles: Sequence[Circle]) -> Tuple[Tuple[Circle, ...], bool]:
-    store, yes = _stored(circles, 0), ctypes.c_bool()
+def _oriented(name: str, vector: Sequence[float], circles: Circles) -> Tuple[Tuple[Inscribed, ...], bool]:
+    store, yes = _stored(circles), ctypes.c_bool()
     _ask(name, *vector, store, len(store), len(circles), yes)
     return _circles(store, len(circles)), yes.value
 
 
-def orient_tmax_fwd(circles: Sequence[Circle]) -> Tuple[Tuple[Circle, ...], bool]:
+def orient_tmax_fwd(circles: Circles) -> Tuple[Tuple[Inscribed, ...], bool]:
     """Leading edge first, by the greatest radius; and whether the order was turned."""
     return _oriented("orient_tmax_fwd", (), circles)
 
 
-def orient_airflow(circles: Sequence[Circle], x: float, y: float) -> Tuple[Tuple[Circle, ...], bool]:
+def orient_airflow(circles: Circles, x: float, y: float) -> Tuple[Tuple[Inscribed, ...], bool]:
     """Leading edge first, by a vector along the airflow."""
     return _oriented("orient_airflow", (x, y), circles)
 
 
-def orient_fwd(circles: Sequence[Circle], x: float, y: float) -> Tuple[Tuple[Circle, ...], bool]:
+def orient_fwd(circles: Circles, x: float, y: float) -> Tuple[Tuple[Inscribed, ...], bool]:
     """Leading edge first, by a vector that points forward."""
     return _oriented("orient_fwd", (x, y), circles)
 
 
-def orient_upper(circles: Sequence[Circle], x: float, y: float) -> Tuple[Tuple[Circle, ...], bool]:
+def orient_upper(circles: Circles, x: float, y: float) -> Tuple[Tuple[Inscribed, ...], bool]:
     """Second contact on the upper side, by a vector to it; and whether the contacts were swapped."""
     return _oriented("orient_upper", (x, y), circles)
 
 
-def orient_lower(circles: Sequence[Circle], x: float, y: float) -> Tuple[Tuple[Circle, ...], bool]:
+def orient_lower(circles: Circles, x: float, y: float) -> Tuple[Tuple[Inscribed, ...], bool]:
     """Second contact on the upper side, by a vector to the lower."""
     return _oriented("orient_lower", (x, y), circles)
 
@@ -462,23 +516,20 @@ def orient_lower(circles: Sequence[Circle], x: float, y: float) -> Tuple[Tuple[C
 # ---- the open edge
 
 
-def is_open_at_end(section: Points, section_tol: float, tol: float, circles: Sequence[Circle], at_front: bool) -> bool:
+def is_open_at_end(section: Points, section_tol: float, tol: float, circles: Circles, at_front: bool) -> bool:
     """Whether the section is open at one end of its circles."""
-    p, n, _ = _numbers(section)
-    store, answer = _stored(circles, 0), ctypes.c_bool()
-    _ask("is_open_at_end", p, n, section_tol, tol, store, len(store), len(circles), at_front, answer)
+    p = _numbers(section)
+    store, answer = _stored(circles), ctypes.c_bool()
+    _ask("is_open_at_end", p, len(p), section_tol, tol, store, len(store), len(circles), at_front, answer)
     return answer.value
 
 
 def fit_open_edge(
-    section: Points, section_tol: float, tol: float, circles: Sequence[Circle], at_front: bool, limit: int = NO_LIMIT, slots: int = SLOTS
+    section: Points, section_tol: float, tol: float, circles: Circles, at_front: bool, limit: int = NO_LIMIT, slots: int = SLOTS
 ) -> Fit:
     """The point where the camber line meets the gap, and the circles on the way to it."""
-    p, n, _ = _numbers(section)
+    p = _numbers(section)
     store = _stored(circles, slots)
     point = (ctypes.c_double * 2)()
-    count, units = ctypes.c_size_t(2**64 - 1), ctypes.c_uint32()
-    number = call("fit_open_edge", p, n, section_tol, tol, store, len(store), len(circles), at_front, limit, point, count, units)
-    if count.value == 2**64 - 1:
-        raise Refused(number)
-    return Fit(number, (point[0], point[1]) if number == 0 else None, _circles(store, count.value), units.value)
+    run = _run("fit_open_edge", store, p, len(p), section_tol, tol, store, len(store), len(circles), at_front, limit, point)
+    return Fit(run.number, (point[0], point[1]) if run.number == 0 else None, run.circles, run.units)

@@ -3,13 +3,14 @@
 from __future__ import annotations
 
 import ctypes
+import operator
 import os
 from pathlib import Path
 from typing import Any
 
-# Numbers to a circle, and circles that a store holds at most.
-WIDTH = 7
+# Circles that a store holds at most, and the largest limit: no limit is felt.
 SLOTS = 1024
+NO_LIMIT = 2**32 - 1
 
 # The endings in words.
 WORDS = {
@@ -47,7 +48,7 @@ def _path() -> Path:
 _loaded: Any = None
 
 d, n, b, u = ctypes.c_double, ctypes.c_size_t, ctypes.c_bool, ctypes.c_uint32
-P, N, B, U = (ctypes.POINTER(t) for t in (d, n, b, u))
+P, N, B, U = ctypes.POINTER(d), ctypes.POINTER(n), ctypes.POINTER(b), ctypes.POINTER(u)
 _slice = [P, n]
 _line = [d, d, d, d]
 
@@ -91,7 +92,8 @@ _arguments = {
 }
 
 
-def _load() -> Any:
+def load() -> Any:
+    """The library, loaded once; OSError where it isn't built."""
     global _loaded
     if _loaded is None:
         library = ctypes.CDLL(str(_path()))
@@ -103,6 +105,40 @@ def _load() -> Any:
     return _loaded
 
 
+def real(name: str, value: Any) -> float:
+    """A number as a float; ctypes would take less and say less."""
+    try:
+        if not isinstance(value, (str, bytes, bytearray)):
+            return float(value)
+    except TypeError:
+        pass
+    except OverflowError:
+        raise ValueError(f"{name}: {value!r} is beyond a float64") from None
+    raise TypeError(f"{name}: {value!r} is not a number")
+
+
+def whole(name: str, value: Any, most: int) -> int:
+    """A whole number from 0 to `most`; ctypes would cut off what is beyond."""
+    try:
+        number = operator.index(value)
+    except TypeError:
+        raise TypeError(f"{name}: {value!r} is not a whole number") from None
+    if not 0 <= number <= most:
+        raise ValueError(f"{name}: {value!r} is not within 0 to {most}")
+    return number
+
+
+def _handed(name: str, kind: Any, value: Any) -> Any:
+    if kind is d:
+        return real(name, value)
+    if kind is b:
+        return bool(value)
+    if kind is n or kind is u:
+        return whole(name, value, 2 ** (8 * ctypes.sizeof(kind)) - 1)
+    return ctypes.byref(value) if isinstance(value, (d, n, b, u)) else value
+
+
 def call(name: str, *args: Any) -> int:
-    """Calls rummyteak_NAME. A single number to be written is handed in as a ctypes object; the lock of the interpreter is free meanwhile."""
-    return getattr(_load(), "rummyteak_" + name)(*(ctypes.byref(a) if isinstance(a, (d, n, b, u)) else a for a in args))
+    """Calls rummyteak_NAME and returns its number. A single number to be written is handed in as a ctypes object. Other threads run meanwhile."""
+    function = getattr(load(), "rummyteak_" + name)
+    return int(function(*(_handed(name, kind, value) for kind, value in zip(_arguments[name], args))))

@@ -1,4 +1,6 @@
-"""One section through all steps: cleaned, its circles found, oriented, its open edge fitted, its camber line drawn. No rule stands here but which call follows which."""
+"""One section through all steps: cleaned, its circles found, oriented, its open edge fitted, its camber line drawn.
+
+No rule stands here but which call follows which, and where the reference line is without one: across the middle of the longest chord."""
 
 from __future__ import annotations
 
@@ -8,19 +10,22 @@ from typing import Any, List, Optional, Sequence, Tuple
 
 import rummyteak as rt
 
+Pair = Tuple[float, float]
 
-@dataclass
+
+@dataclass(frozen=True)
 class Options:
-    """Every argument of the calls."""
+    """Every argument of the calls. Without a line it is across the middle of the longest chord; without `fwd` and `airflow` the greatest radius orients;
+    `end` is auto, front, back or none."""
 
     section_tol: float = 0.001
     tol: float = 0.01
     force_closed: bool = False
     line: Optional[Tuple[float, float, float, float]] = None
-    fwd: Optional[Tuple[float, float]] = None
-    airflow: Optional[Tuple[float, float]] = None
-    upper: Optional[Tuple[float, float]] = None
-    lower: Optional[Tuple[float, float]] = None
+    fwd: Optional[Pair] = None
+    airflow: Optional[Pair] = None
+    upper: Optional[Pair] = None
+    lower: Optional[Pair] = None
     end: str = "auto"
     limit: int = rt.NO_LIMIT
     slots: int = rt.SLOTS
@@ -28,38 +33,39 @@ class Options:
 
 @dataclass
 class Blade:
-    """What came of a section. `number` is the first ending that isn't 0, and `step` the call that it came from."""
+    """What came of a section. `number` is the first ending that isn't 0, and `step` the call that it came from; the steps behind it were not taken,
+    but what its circles give is drawn."""
 
     points: int = 0
-    curve: Optional[rt.Curve] = None
-    line: Optional[rt.Line] = None
+    curve: Optional[rt.Curve2] = None
+    line: Optional[rt.Line2] = None
     line_given: bool = False
-    circles: Tuple[rt.Circle, ...] = ()
+    circles: Tuple[rt.Inscribed, ...] = ()
     units: int = 0
     turned: Optional[bool] = None
     swapped: Optional[bool] = None
-    open_front: bool = False
-    open_back: bool = False
-    edge: Optional[Tuple[float, float]] = None
-    camber: Optional[rt.Curve] = None
+    edge: Optional[Pair] = None
+    edge_at: str = ""
+    camber: Optional[rt.Curve2] = None
     camber_length: Optional[float] = None
     thickest: Optional[int] = None
     number: int = 0
     step: str = ""
 
-    def ended(self, number: int, step: str) -> None:
-        if number and not self.number:
-            self.number, self.step = number, step
+    @property
+    def ending(self) -> str:
+        """The ending in words, with its number and the step that it came from."""
+        return f"{self.number}: {rt.WORDS[self.number]}" + (f", at the {self.step}" if self.number else "")
 
 
-def _hull(points: Sequence[Tuple[float, float]]) -> List[Tuple[float, float]]:
+def _hull(points: Sequence[Pair]) -> List[Pair]:
     """The corners of the convex hull."""
     ordered = sorted(set(points))
     if len(ordered) < 3:
         return ordered
-    half: List[List[Tuple[float, float]]] = []
+    half: List[List[Pair]] = []
     for run in (ordered, ordered[::-1]):
-        chain: List[Tuple[float, float]] = []
+        chain: List[Pair] = []
         for p in run:
             while len(chain) > 1:
                 (ax, ay), (bx, by) = chain[-2], chain[-1]
@@ -71,7 +77,7 @@ def _hull(points: Sequence[Tuple[float, float]]) -> List[Tuple[float, float]]:
     return half[0] + half[1]
 
 
-def middle_line(curve: rt.Curve) -> rt.Line:
+def middle_line(curve: rt.Curve2) -> rt.Line2:
     """A line across the middle of the longest chord."""
     corners = _hull(curve.points())
     best, a, b = -1.0, corners[0], corners[-1]
@@ -80,74 +86,84 @@ def middle_line(curve: rt.Curve) -> rt.Line:
             far = math.hypot(q[0] - p[0], q[1] - p[1])
             if far > best:
                 best, a, b = far, p, q
-    return rt.Line((a[0] + b[0]) / 2, (a[1] + b[1]) / 2, -(b[1] - a[1]), b[0] - a[0])
+    return rt.Line2((a[0] + b[0]) / 2, (a[1] + b[1]) / 2, -(b[1] - a[1]), b[0] - a[0])
 
 
-def _oriented(blade: Blade, options: Options) -> None:
-    try:
-        if options.fwd:
-            blade.circles, blade.turned = rt.orient_fwd(blade.circles, *options.fwd)
-        elif options.airflow:
-            blade.circles, blade.turned = rt.orient_airflow(blade.circles, *options.airflow)
+class _Steps:
+    """The steps in order. Each raises Refused, or returns the number that its run ended with."""
+
+    def __init__(self, points: Any, options: Options) -> None:
+        self.points, self.options = rt._numbers(points), options
+        self.blade = Blade(points=len(self.points) // 2)
+
+    def cleaning(self) -> int:
+        self.blade.curve = rt.from_points(self.points, self.options.section_tol, self.options.force_closed)
+        return 0
+
+    def circles(self) -> int:
+        blade, o = self.blade, self.options
+        assert blade.curve is not None
+        blade.line_given = o.line is not None
+        blade.line = middle_line(blade.curve) if o.line is None else rt.Line2(*o.line)
+        run = rt.extract_circles(blade.curve, o.section_tol, o.tol, blade.line, o.limit, o.slots)
+        blade.circles, blade.units = run.circles, run.units
+        return run.number
+
+    def orientation(self) -> int:
+        blade, o = self.blade, self.options
+        if o.fwd:
+            blade.circles, blade.turned = rt.orient_fwd(blade.circles, *o.fwd)
+        elif o.airflow:
+            blade.circles, blade.turned = rt.orient_airflow(blade.circles, *o.airflow)
         else:
             blade.circles, blade.turned = rt.orient_tmax_fwd(blade.circles)
-        if options.upper:
-            blade.circles, blade.swapped = rt.orient_upper(blade.circles, *options.upper)
-        elif options.lower:
-            blade.circles, blade.swapped = rt.orient_lower(blade.circles, *options.lower)
-    except rt.Refused as refused:
-        blade.ended(refused.number, "orientation")
+        if o.upper:
+            blade.circles, blade.swapped = rt.orient_upper(blade.circles, *o.upper)
+        elif o.lower:
+            blade.circles, blade.swapped = rt.orient_lower(blade.circles, *o.lower)
+        return 0
 
+    def open_edge(self) -> int:
+        blade, o = self.blade, self.options
+        end = o.end
+        if end == "auto":
+            front, back = (rt.is_open_at_end(blade.curve, o.section_tol, o.tol, blade.circles, at_front) for at_front in (True, False))
+            end = "back" if back else "front" if front else "none"
+        if end == "none":
+            return 0
+        fit = rt.fit_open_edge(blade.curve, o.section_tol, o.tol, blade.circles, end == "front", o.limit, o.slots)
+        blade.circles, blade.edge, blade.edge_at = fit.circles, fit.point, end
+        blade.units += fit.units
+        return fit.number
 
-def _fitted(blade: Blade, options: Options, numbers: Sequence[float]) -> None:
-    try:
-        blade.open_front = rt.is_open_at_end(numbers, options.section_tol, options.tol, blade.circles, True)
-        blade.open_back = rt.is_open_at_end(numbers, options.section_tol, options.tol, blade.circles, False)
-        at_front = options.end == "front" or (options.end == "auto" and blade.open_front and not blade.open_back)
-        if options.end == "none" or (options.end == "auto" and not (blade.open_front or blade.open_back)):
-            return
-        fit = rt.fit_open_edge(numbers, options.section_tol, options.tol, blade.circles, at_front, options.limit, options.slots)
-    except rt.Refused as refused:
-        blade.ended(refused.number, "open edge")
-        return
-    blade.circles, blade.edge = fit.circles, fit.point
-    blade.units += fit.units
-    blade.open_front, blade.open_back = at_front, not at_front
-    blade.ended(fit.number, "open edge")
-
-
-def _drawn(blade: Blade, options: Options) -> None:
-    try:
+    def camber_line(self) -> int:
+        blade, o = self.blade, self.options
+        if not blade.circles:
+            return 0
         blade.thickest = rt.index_of_tmax(blade.circles)
         if blade.edge is None:
-            blade.camber = rt.camber_curve(blade.circles, options.section_tol)
+            blade.camber = rt.camber_curve(blade.circles, o.section_tol)
         else:
-            first, last = blade.circles[0], blade.circles[-1]
-            le = blade.edge if blade.open_front else (first.cx, first.cy)
-            te = (last.cx, last.cy) if blade.open_front else blade.edge
-            blade.camber = rt.make_camber_curve(le, te, blade.circles, options.section_tol)
-        blade.camber_length = rt.length(blade.camber.numbers, options.section_tol)
-    except rt.Refused as refused:
-        blade.ended(refused.number, "camber line")
+            le, te = blade.circles[0].center, blade.circles[-1].center
+            ends = (blade.edge, te) if blade.edge_at == "front" else (le, blade.edge)
+            blade.camber = rt.make_camber_curve(*ends, blade.circles, o.section_tol)
+        blade.camber_length = rt.length(blade.camber, o.section_tol)
+        return 0
+
+    def take(self, step: Any) -> None:
+        try:
+            number = step()
+        except rt.Refused as refused:
+            number = refused.number
+        if number and not self.blade.number:
+            self.blade.number, self.blade.step = number, step.__name__.replace("_", " ")
 
 
 def worked_out(points: Any, options: Options) -> Blade:
-    """All that is to be had of a section."""
-    blade = Blade(points=len(points) // 2)
-    try:
-        blade.curve = rt.from_points(points, options.section_tol, options.force_closed)
-        numbers = blade.curve.numbers
-        blade.line_given = options.line is not None
-        blade.line = rt.Line(*options.line) if options.line is not None else middle_line(blade.curve)
-        run = rt.extract_circles(numbers, options.section_tol, options.tol, blade.line, options.limit, options.slots)
-    except rt.Refused as refused:
-        blade.ended(refused.number, "cleaning" if blade.curve is None else "circles")
-        return blade
-    blade.circles, blade.units = run.circles, run.units
-    blade.ended(run.number, "circles")
-    if len(blade.circles) > 1:
-        if run.number == 0:
-            _oriented(blade, options)
-            _fitted(blade, options, numbers)
-        _drawn(blade, options)
-    return blade
+    """All that is to be had of a section; its points are whatever the module takes as points."""
+    steps = _Steps(points, options)
+    for step in (steps.cleaning, steps.circles, steps.orientation, steps.open_edge):
+        if not steps.blade.number:
+            steps.take(step)
+    steps.take(steps.camber_line)
+    return steps.blade

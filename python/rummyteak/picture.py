@@ -1,80 +1,204 @@
-"""The picture of a blade, as SVG: to scale, y upwards, with a legend and the ending."""
+"""The picture of a blade, as SVG: to scale, y upwards, with both ends enlarged, a legend and the ending.
+
+Nothing is worked out here but where things stand on the page; every number shown comes from the library."""
 
 from __future__ import annotations
 
+import math
 from html import escape
-from typing import List, Sequence, Tuple
+from typing import List, Optional, Sequence, Tuple
 
-from . import WORDS
+from . import Inscribed
 from .blade import Blade
 
+WIDE, MARGIN, HIGHEST = 1000.0, 40.0, 560.0
+DETAIL_WIDE, DETAIL_HIGH = 450.0, 230.0
+TEXT, ROW = 17.0, 27.0
 
-def _path(points: Sequence[Tuple[float, float]], closed: bool = False) -> str:
-    return "M" + " L".join(f"{x:.9g},{-y:.9g}" for x, y in points) + ("Z" if closed else "")
+SECTION, CIRCLE, TINT, THICKEST = "#222222", "#4488bb", "#e4eff8", "#ee7733"
+CAMBER, P0, P1, REFERENCE, EDGE = "#cc3311", "#009988", "#aa4499", "#888888", "#dd2277"
+GOOD, BAD = "#117733", "#bb1111"
+
+Point = Tuple[float, float]
+
+
+class _Page:
+    """A window on the blade: the millimetres from (left, high) on, so many page units to a millimetre."""
+
+    def __init__(self, left: float, high: float, scale: float) -> None:
+        self.left, self.high, self.scale = left, high, scale
+
+    def at(self, p: Point) -> Point:
+        return ((p[0] - self.left) * self.scale, (self.high - p[1]) * self.scale)
+
+    def path(self, points: Sequence[Point]) -> str:
+        return "M" + "L".join(f"{x:.2f},{y:.2f}" for x, y in map(self.at, points))
+
+    def disc(self, c: Inscribed) -> str:
+        (x, y), r = self.at(c.center), c.r * self.scale
+        return f"M{x - r:.2f},{y:.2f}a{r:.2f},{r:.2f} 0 1 0 {2 * r:.2f},0a{r:.2f},{r:.2f} 0 1 0 {-2 * r:.2f},0"
+
+
+def _stroke(colour: str, width: float, dash: str = "") -> str:
+    return f'fill="none" stroke="{colour}" stroke-width="{width:g}"' + (f' stroke-dasharray="{dash}"' if dash else "")
+
+
+def _dot(p: Point, r: float, colour: str) -> str:
+    return f'<circle cx="{p[0]:.2f}" cy="{p[1]:.2f}" r="{r:g}" fill="{colour}"/>'
+
+
+def _text(x: float, y: float, words: str, colour: str = SECTION, size: float = TEXT, more: str = "") -> str:
+    return f'<text x="{x:.1f}" y="{y:.1f}" font-size="{size:g}" fill="{colour}"{more}>{escape(words)}</text>'
+
+
+def _tooltip(k: int, c: Inscribed) -> str:
+    return f"<title>circle {k}: " + ", ".join(f"{name} {value!r}" for name, value in zip(c._fields, c)) + "</title>"
+
+
+def _stopped(blade: Blade) -> Optional[int]:
+    """The circle at which a run was spent or refused: the newest one."""
+    if not blade.number or not blade.circles or blade.step not in ("circles", "open edge"):
+        return None
+    return 0 if blade.edge_at == "front" else len(blade.circles) - 1
+
+
+def _drawing(blade: Blade, page: _Page, wide: float, high: float, bold: float) -> List[str]:
+    """Everything that lies in a window; strokes and dots are `bold` times as large as in the whole picture."""
+    assert blade.curve is not None
+    points = blade.curve.points()
+    stop = _stopped(blade)
+
+    def seen(c: Inscribed) -> bool:
+        (x, y), r = page.at(c.center), c.r * page.scale
+        return -r <= x <= wide + r and -r <= y <= high + r
+
+    shown = [(k, c) for k, c in enumerate(blade.circles) if seen(c)]
+    out = [f'<path d="{"".join(page.disc(c) for _, c in shown)}" fill="{TINT}"/>'] if shown else []
+    out.append(f'<path d="{page.path(points)}" {_stroke(SECTION, 1.3 * bold)} stroke-linejoin="round"/>')
+    for k, c in shown:
+        out.append(f'<g class="c">{_tooltip(k, c)}<path d="{page.disc(c)}" {_stroke(CIRCLE, 0.6 * bold)}/>{_dot(page.at(c.p0), 1.5 * bold, P0)}{_dot(page.at(c.p1), 1.5 * bold, P1)}</g>')
+    if blade.line is not None:
+        d = blade.line
+        far = math.hypot(d.dx, d.dy) or 1.0
+        reach = (wide + high) / page.scale + math.hypot(d.ox - points[0][0], d.oy - points[0][1])
+        ux, uy = d.dx / far * reach, d.dy / far * reach
+        if math.isfinite(ux) and math.isfinite(uy) and math.isfinite(reach):
+            out.append(f'<path d="{page.path([(d.ox - ux, d.oy - uy), (d.ox + ux, d.oy + uy)])}" {_stroke(REFERENCE, 1.2 * bold, "6 4")}/>')
+    if not blade.curve.is_closed:
+        out.append(f'<path d="{page.path([points[0], points[-1]])}" {_stroke(EDGE, 1.6 * bold, "4 3")}/>')
+    for ringed, colour in ((blade.thickest, THICKEST), (stop, BAD)):
+        if ringed is not None:
+            c = blade.circles[ringed]
+            out.append(f'<g>{_tooltip(ringed, c)}<path d="{page.disc(c)}" {_stroke(colour, 2.2 * bold)}/></g>')
+    if blade.camber is not None:
+        out.append(f'<path d="{page.path(blade.camber.points())}" {_stroke(CAMBER, 1.6 * bold)}/>')
+    if blade.edge is not None:
+        x, y = page.at(blade.edge)
+        out.append(f'<g><title>open-edge point {blade.edge[0]!r}, {blade.edge[1]!r}</title><circle cx="{x:.2f}" cy="{y:.2f}" r="{3.4 * bold:g}" fill="{EDGE}" stroke="#ffffff" stroke-width="1.2"/></g>')
+    return out
+
+
+def _window(x: float, y: float, wide: float, high: float, inside: List[str], frame: bool) -> List[str]:
+    edge = f'<rect x="{x:g}" y="{y:.1f}" width="{wide:g}" height="{high:.1f}" {_stroke("#cccccc", 1)}/>'
+    return [f'<svg x="{x:g}" y="{y:.1f}" width="{wide:g}" height="{high:.1f}">', *inside, "</svg>"] + ([edge] if frame else [])
+
+
+def _legend(blade: Blade) -> List[Tuple[str, str]]:
+    """A sign, drawn around (0, 0), and what it stands for."""
+    assert blade.curve is not None
+
+    def line(colour: str, dash: str = "") -> str:
+        return f'<path d="M-16,0H16" {_stroke(colour, 2.4, dash)}/>'
+
+    def ring(colour: str, width: float) -> str:
+        return f'<circle r="9" {_stroke(colour, width)}/>'
+
+    rows = [(line(SECTION), f"section, {len(blade.curve.points())} of {blade.points} points kept, {'closed' if blade.curve.is_closed else 'open'}")]
+    if blade.line is not None:
+        d = blade.line
+        rows.append((line(REFERENCE, "6 4"), f"reference line from ({d.ox:.3g}, {d.oy:.3g}) along ({d.dx:.3g}, {d.dy:.3g})"))
+    if blade.circles:
+        rows.append((ring(CIRCLE, 1.2), f"{len(blade.circles)} inscribed circles, {blade.units} units"))
+        rows.append((_dot((-7, 0), 3.5, P0) + _dot((7, 0), 3.5, P1), "their contacts, p0 and p1"))
+    stop = _stopped(blade)
+    if stop is not None:
+        rows.append((ring(BAD, 2.6), f"it stopped here, at circle {stop}"))
+    if blade.thickest is not None:
+        rows.append((ring(THICKEST, 2.6), f"greatest thickness {2 * blade.circles[blade.thickest].r:.6g}, circle {blade.thickest}"))
+    if blade.camber_length is not None:
+        rows.append((line(CAMBER), f"camber line, length {blade.camber_length:.6g}" + (", as far as it came" if stop is not None else "")))
+    if not blade.curve.is_closed:
+        rows.append((line(EDGE, "4 3"), "gap"))
+    if blade.edge is not None:
+        rows.append((_dot((0, 0), 5, EDGE), f"open-edge point ({blade.edge[0]:.6g}, {blade.edge[1]:.6g}), at the {blade.edge_at}"))
+    return rows
+
+
+def _bar(scale: float) -> Tuple[float, str]:
+    """A round length of some 100 to 250 page units, and its name."""
+    most = 250 / scale
+    size = 10.0 ** math.floor(math.log10(most))
+    size *= 5 if 5 * size <= most else 2 if 2 * size <= most else 1
+    return size * scale, f"{size:g} mm"
+
+
+def _detail(blade: Blade, k: int, chord: float, scale: float, x: float, y: float) -> List[str]:
+    """The window around circle k, and how much larger it is than the whole."""
+    c = blade.circles[k]
+    high = max(min(6 * c.r, chord / 8), chord / 150)
+    page_scale = DETAIL_HIGH / high
+    page = _Page(c.cx - DETAIL_WIDE / page_scale / 2, c.cy + high / 2, page_scale)
+    words = f"circle {k}, {'the first' if k == 0 else 'the last'}: {page_scale / scale:.3g} times as large"
+    return [_text(x, y - 8, words, size=15)] + _window(x, y, DETAIL_WIDE, DETAIL_HIGH, _drawing(blade, page, DETAIL_WIDE, DETAIL_HIGH, 1.5), True)
 
 
 def svg(blade: Blade, title: str) -> str:
-    """The picture as text."""
-    assert blade.curve is not None
-    points = blade.curve.points()
-    xs = [x for x, _ in points] + ([blade.edge[0]] if blade.edge else [])
-    ys = [y for _, y in points] + ([blade.edge[1]] if blade.edge else [])
-    left, right, low, high = min(xs), max(xs), min(ys), max(ys)
-    size = max(right - left, high - low) or 1.0
-    pad, line = 0.05 * size, size / 400
-    width = max(right - left, 0.6 * size) + 2 * pad
-    words = 0.022 * size
-    legend_rows = 9 if blade.edge or not blade.curve.is_closed else 7
-    height = (high - low) + 2 * pad + (legend_rows + 3) * 1.4 * words
-    out: List[str] = [
-        f'<svg xmlns="http://www.w3.org/2000/svg" viewBox="{left - pad:.9g} {-high - pad:.9g} {width:.9g} {height:.9g}" width="1000" font-family="sans-serif">',
-        f"<title>{escape(title)}</title>",
-        f'<rect x="{left - pad:.9g}" y="{-high - pad:.9g}" width="{width:.9g}" height="{height:.9g}" fill="#ffffff"/>',
-        f'<path d="{_path(points)}" fill="none" stroke="#222222" stroke-width="{1.5 * line:.6g}"/>',
+    """The picture as text. Where not even cleaning gave a curve it has the ending alone."""
+    colour = BAD if blade.number else GOOD
+    out = [
+        f'<rect x="0" y="46" width="{WIDE:g}" height="34" fill="{colour}"/>',
+        _text(MARGIN, 32, title, size=22),
+        _text(MARGIN, 69, blade.ending, "#ffffff", 18, ' font-weight="bold"'),
     ]
-    if not blade.curve.is_closed:
-        out.append(f'<path d="{_path([points[0], points[-1]])}" fill="none" stroke="#cc3311" stroke-width="{line:.6g}" stroke-dasharray="{4 * line:.6g}"/>')
-    for k, c in enumerate(blade.circles):
-        thick = k == blade.thickest
-        out.append(
-            f'<circle cx="{c.cx:.9g}" cy="{-c.cy:.9g}" r="{c.r:.9g}" fill="none" stroke="{"#ee7733" if thick else "#77aadd"}" stroke-width="{(2 if thick else 0.7) * line:.6g}">'
-            f"<title>circle {k}: centre {c.cx!r}, {c.cy!r}, radius {c.r!r}, contacts {c.p0x!r}, {c.p0y!r} and {c.p1x!r}, {c.p1y!r}</title></circle>"
-        )
-    for c in blade.circles:
-        out.append(f'<circle cx="{c.p0x:.9g}" cy="{-c.p0y:.9g}" r="{1.2 * line:.6g}" fill="#009988"/>')
-        out.append(f'<circle cx="{c.p1x:.9g}" cy="{-c.p1y:.9g}" r="{1.2 * line:.6g}" fill="#aa4499"/>')
-    if blade.line is not None:
-        d = blade.line
-        norm = (d.dx * d.dx + d.dy * d.dy) ** 0.5 or 1.0
-        ux, uy = d.dx / norm * size / 3, d.dy / norm * size / 3
-        low_end, high_end = (d.ox - ux, d.oy - uy), (d.ox + ux, d.oy + uy)
-        clipped = [(x, min(max(y, low - pad), high + pad)) for x, y in (low_end, high_end)]
-        out.append(f'<path d="{_path(clipped)}" fill="none" stroke="#bbbbbb" stroke-width="{line:.6g}" stroke-dasharray="{2 * line:.6g}"/>')
-    if blade.camber is not None:
-        out.append(f'<path d="{_path(blade.camber.points())}" fill="none" stroke="#cc3311" stroke-width="{1.5 * line:.6g}"/>')
-    if blade.edge is not None:
-        x, y = blade.edge
-        out.append(f'<circle cx="{x:.9g}" cy="{-y:.9g}" r="{3 * line:.6g}" fill="#cc3311"><title>open-edge point {x!r}, {y!r}</title></circle>')
-    rows = [
-        ("#222222", f"section, {len(points)} points, {'closed' if blade.curve.is_closed else 'open'}"),
-        ("#77aadd", f"{len(blade.circles)} inscribed circles, {blade.units} units"),
-        ("#ee7733", f"greatest thickness {2 * blade.circles[blade.thickest].r:.6g}" if blade.thickest is not None and blade.circles else "no thickest circle"),
-        ("#cc3311", f"camber line, length {blade.camber_length:.6g}" if blade.camber_length is not None else "no camber line"),
-        ("#009988", "first contacts"),
-        ("#aa4499", "second contacts"),
-        ("#bbbbbb", "reference line"),
+    y = 80.0
+    if blade.curve is not None:
+        points = blade.curve.points() + ([blade.edge] if blade.edge else [])
+        xs, ys = [p[0] for p in points], [p[1] for p in points]
+        wide, high = max(xs) - min(xs), max(ys) - min(ys)
+        scale = min((WIDE - 2 * MARGIN) / (wide or high or 1.0), HIGHEST / (high or wide or 1.0))
+        tall = high * scale + 2 * MARGIN
+        left = min(xs) - (WIDE / scale - wide) / 2
+        page = _Page(left, max(ys) + MARGIN / scale, scale)
+        out += _window(0, y, WIDE, tall, _drawing(blade, page, WIDE, tall, 1.0), False)
+        stop = _stopped(blade)
+        if stop is not None:
+            x, at = page.at(blade.circles[stop].center)
+            side = "end" if x > WIDE / 2 else "start"
+            out.append(f'<path d="M{x:.1f},{y + at:.1f}V{y + 24:.1f}" {_stroke(BAD, 1.4)}/>')
+            out.append(_text(x + (-6 if side == "end" else 6), y + 22, "it stopped here", BAD, more=f' text-anchor="{side}" font-weight="bold"'))
+        y += tall
+        bar, words = _bar(scale)
+        out.append(f'<path d="M{MARGIN:g},{y - 6:.1f}v6h{bar:.2f}v-6" {_stroke(SECTION, 1.4)}/>')
+        out.append(_text(MARGIN + bar + 8, y + 3, words, size=15))
+        y += 14
+        if blade.circles:
+            y += 34
+            for x, k in zip((MARGIN, WIDE - MARGIN - DETAIL_WIDE), (0, len(blade.circles) - 1)):
+                out += _detail(blade, k, max(wide, high), scale, x, y)
+            y += DETAIL_HIGH
+        y += 14
+        rows = _legend(blade)
+        half = (len(rows) + 1) // 2
+        for i, (sign, words) in enumerate(rows):
+            x, at = MARGIN + (i // half) * 500, y + ROW * (i % half + 0.8)
+            out.append(f'<g transform="translate({x + 16:g},{at - 5:.1f})">{sign}</g>')
+            out.append(_text(x + 42, at, words, size=16))
+        y += ROW * half
+    y += 16
+    head = [
+        f'<svg xmlns="http://www.w3.org/2000/svg" viewBox="0 0 {WIDE:g} {y:.0f}" width="{WIDE:g}" height="{y:.0f}" font-family="sans-serif">',
+        f"<title>{escape(title)}: {escape(blade.ending)}</title>",
+        "<style>.c:hover path{stroke:#000000;stroke-width:2.5}</style>",
+        f'<rect width="{WIDE:g}" height="{y:.0f}" fill="#ffffff"/>',
     ]
-    if legend_rows == 9:
-        rows.append(("#cc3311", f"open-edge point {blade.edge[0]:.6g}, {blade.edge[1]:.6g}" if blade.edge else "no open-edge point"))
-        rows.append(("#cc3311", "gap (dashed)"))
-    ending = f"{blade.number}: {WORDS[blade.number]}" + (f" ({blade.step})" if blade.number else "")
-    y = -low + pad + words
-    out.append(f'<text x="{left:.9g}" y="{y:.9g}" font-size="{1.2 * words:.6g}" fill="#222222">{escape(title)}</text>')
-    y += 1.5 * words
-    out.append(f'<text x="{left:.9g}" y="{y:.9g}" font-size="{words:.6g}" fill="{"#cc3311" if blade.number else "#222222"}">{escape(ending)}</text>')
-    for colour, text in rows:
-        y += 1.4 * words
-        out.append(f'<rect x="{left:.9g}" y="{y - 0.5 * words:.9g}" width="{words:.6g}" height="{0.3 * words:.6g}" fill="{colour}"/>')
-        out.append(f'<text x="{left + 1.5 * words:.9g}" y="{y:.9g}" font-size="{words:.6g}" fill="#222222">{escape(text)}</text>')
-    out.append("</svg>")
-    return "\n".join(out) + "\n"
+    return "\n".join([*head, *out, "</svg>"]) + "\n"

@@ -1,9 +1,11 @@
 // Slices of numbers that the lines of a table fill, and what is compared of them. Numbers are compared by their bits.
 use crate::bits;
+use crate::cells::number_at;
+use crate::cells::put;
 use crate::tables::number;
 use crate::tables::whole;
 use crate::tables::word;
-use compare::answers;
+use inscribed::store::WIDTH;
 
 // The number in word k of a line, or another one where there is no such word.
 fn number_or(line: &[u8], k: usize, x: f64) -> f64 {
@@ -23,7 +25,7 @@ pub(crate) fn count(line: &[u8], k: usize) -> usize {
 pub(crate) fn copy_from(to: &mut [f64], numbers: &[f64], at: u32) {
     let mut i: usize = 0;
     while i < to.len() {
-        to[i] = answers::number_at(numbers, at as usize + i);
+        to[i] = number_at(numbers, at as usize + i);
         i += 1;
     }
 }
@@ -32,7 +34,7 @@ pub(crate) fn copy_from(to: &mut [f64], numbers: &[f64], at: u32) {
 pub(crate) fn copy_to(numbers: &mut [f64], at: u32, from: &[f64]) {
     let mut i: usize = 0;
     while i < from.len() {
-        answers::put(numbers, at as usize + i, from[i]);
+        put(numbers, at as usize + i, from[i]);
         i += 1;
     }
 }
@@ -41,8 +43,8 @@ pub(crate) fn copy_to(numbers: &mut [f64], at: u32, from: &[f64]) {
 pub(crate) fn is_same(numbers: &[f64], i: u32, j: u32, count: u32) -> bool {
     let mut k: u32 = 0;
     while k < count {
-        let x = answers::number_at(numbers, i as usize + k as usize);
-        let y = answers::number_at(numbers, j as usize + k as usize);
+        let x = number_at(numbers, i as usize + k as usize);
+        let y = number_at(numbers, j as usize + k as usize);
         if bits::pattern(x) != bits::pattern(y) {
             return false;
         }
@@ -55,7 +57,7 @@ pub(crate) fn is_same(numbers: &[f64], i: u32, j: u32, count: u32) -> bool {
 pub(crate) fn holds(numbers: &[f64], i: u32, count: u32, line: &[u8], mark: f64) -> bool {
     let mut k: u32 = 0;
     while k < count {
-        let x = answers::number_at(numbers, i as usize + k as usize);
+        let x = number_at(numbers, i as usize + k as usize);
         let y = number_or(line, k as usize + 1, mark);
         if bits::pattern(x) != bits::pattern(y) {
             return false;
@@ -69,7 +71,7 @@ pub(crate) fn holds(numbers: &[f64], i: u32, count: u32, line: &[u8], mark: f64)
 pub(crate) fn fill(numbers: &mut [f64], i: u32, count: u32, mark: f64) {
     let mut k: u32 = 0;
     while k < count {
-        answers::put(numbers, i as usize + k as usize, mark);
+        put(numbers, i as usize + k as usize, mark);
         k += 1;
     }
 }
@@ -78,8 +80,8 @@ pub(crate) fn fill(numbers: &mut [f64], i: u32, count: u32, mark: f64) {
 pub(crate) fn copy(numbers: &mut [f64], i: u32, j: u32, count: u32) {
     let mut k: u32 = 0;
     while k < count {
-        let x = answers::number_at(numbers, i as usize + k as usize);
-        answers::put(numbers, j as usize + k as usize, x);
+        let x = number_at(numbers, i as usize + k as usize);
+        put(numbers, j as usize + k as usize, x);
         k += 1;
     }
 }
@@ -92,7 +94,7 @@ pub(crate) fn write(numbers: &mut [f64], i: u32, line: &[u8], k: u32) -> u64 {
         if w.len() == 0 {
             return m as u64;
         }
-        answers::put(numbers, i as usize + m as usize, number(w));
+        put(numbers, i as usize + m as usize, number(w));
         m += 1;
     }
     m as u64
@@ -104,7 +106,7 @@ pub(crate) fn row(numbers: &mut [f64], i: u32, count: u32) {
     let mut x: f64 = 0.0;
     let mut k: u32 = 0;
     while k < count / 2 {
-        answers::put(numbers, i as usize + 2 * k as usize, x);
+        put(numbers, i as usize + 2 * k as usize, x);
         x = x + 1.0;
         k += 1;
     }
@@ -115,7 +117,7 @@ pub(crate) fn rank(numbers: &mut [f64], i: u32, count: u32) {
     let mut x: f64 = 1.0;
     let mut k: u32 = 0;
     while k < count {
-        put_upright(numbers, i as usize + 7 * k as usize, x);
+        put_upright(numbers, i as usize + WIDTH * k as usize, x);
         x = x + 0.00390625;
         k += 1;
     }
@@ -123,12 +125,12 @@ pub(crate) fn rank(numbers: &mut [f64], i: u32, count: u32) {
 
 // The circle that R has on the upright line at x.
 fn put_upright(numbers: &mut [f64], at: usize, x: f64) {
-    let mut seven = [x; 7];
-    seven[1] = 1.00048828125;
-    seven[2] = 0.99951171875;
-    seven[4] = 0.0;
-    seven[6] = 2.0;
+    let mut circle = [x; WIDTH];
+    circle[1] = 1.00048828125;
+    circle[2] = 0.99951171875;
+    circle[4] = 0.0;
+    circle[6] = 2.0;
     if at < 100_000 {
-        copy_to(numbers, at as u32, &seven);
+        copy_to(numbers, at as u32, &circle);
     }
 }

@@ -1,7 +1,9 @@
 // Runs the worked cases and the outside vectors. They stand in a table, the file `stdin` beside this folder, whose first lines say how it is read.
 // Of each case this program says whether all of its lines came out right, and it shows each line that didn't.
+mod asked;
 mod bits;
 mod buffers;
+mod cells;
 mod replay;
 mod samples;
 mod script;
@@ -83,7 +85,7 @@ fn lines(text: &[u8], n: &mut [f64], words: &mut [u64]) -> u32 {
 
 fn main() {
     let mut text = [0; 131072];
-    let mut n = [0.0; 56000];
+    let mut n = [0.0; script::ALL as usize];
     let mut words = [0; 9];
     let len = io::read_full(0, &mut text);
     verdict(lines(&text[0..len], &mut n, &mut words));

@@ -1,16 +1,19 @@
 // What the lines of a table of cases do: they set what is handed in, ask the library, and compare what it answers and leaves. The numbers and words stand as `script` has them.
+use crate::asked;
 use crate::buffers;
+use crate::cells::tell;
 use crate::script;
+use crate::script::ROOM;
+use crate::script::SIZE;
 use crate::tables;
 use crate::tables::whole;
 use crate::tables::word;
-use compare::answers;
 
 mod limits;
 mod places;
 mod sums;
 
-// The number by which `compare::ask` knows a function.
+// The number by which `asked::ask` knows a function.
 fn kind_of(name: &[u8]) -> u64 {
     let names: &[u8] = b"from_points reversed camber_curve make_camber_curve \
         is_closed is_open_at_end tmax_fwd airflow fwd upper lower \
@@ -24,11 +27,11 @@ fn kind_of(name: &[u8]) -> u64 {
     tables::place_of(names, name)
 }
 
-fn put_output(n: &mut [f64], out: &[f64; 8200]) {
+fn put_output(n: &mut [f64], out: &[f64; ROOM as usize]) {
     buffers::copy_to(n, script::OUT, out);
 }
 
-fn put_store(n: &mut [f64], store: &[f64; 7700]) {
+fn put_store(n: &mut [f64], store: &[f64; SIZE as usize]) {
     buffers::copy_to(n, script::STORE, store);
 }
 
@@ -36,16 +39,16 @@ fn put_store(n: &mut [f64], store: &[f64; 7700]) {
 fn ask_kind(kind: u64, place: usize, how: u64, limit: u32, n: &mut [f64], words: &mut [u64]) {
     let mut section = [0.0; 8194];
     let mut args = [0.0; 16];
-    let mut out = [0.0; 8200];
-    let mut store = [0.0; 7700];
+    let mut out = [0.0; ROOM as usize];
+    let mut store = [0.0; SIZE as usize];
     buffers::copy_from(&mut section, n, script::SECTION);
     buffers::copy_from(&mut args, n, script::ARGS);
     buffers::copy_from(&mut out, n, script::OUT);
     buffers::copy_from(&mut store, n, script::STORE);
     let s = script::size_at(words, 6, 8194);
-    let t = script::size_at(words, 7, 7700);
-    let o = script::size_at(words, 8, 8200);
-    compare::ask(
+    let t = script::size_at(words, 7, SIZE as usize);
+    let o = script::size_at(words, 8, ROOM as usize);
+    asked::ask(
         kind,
         &section[0..s],
         &args,
@@ -66,9 +69,9 @@ fn ask(line: &[u8], k: u32, limit: u32, n: &mut [f64], words: &mut [u64]) {
     let kind = kind_of(word(line, at));
     let place = buffers::count(line, at + 1);
     let how = whole(word(line, at + 2));
-    answers::tell(words, 0, 0);
-    answers::tell(words, 1, 0);
-    answers::tell(words, 2, 0);
+    tell(words, 0, 0);
+    tell(words, 1, 0);
+    tell(words, 2, 0);
     ask_kind(kind, place, how, limit, n, words);
 }
 

@@ -35,10 +35,12 @@ pub(crate) fn checksum_of(told: &[u64; 3], out: &[f64], store: &[f64]) -> u64 {
 
 // The root of x asked for directly: its bits, or the number of its refusal.
 pub(crate) fn root_bits(x: f64) -> u64 {
-    match root::sqrt(x) {
-        errors::ScalarAnswer::Value(r) => bits::pattern(r),
-        errors::ScalarAnswer::Refused(r) => errors::number(r) as u64,
+    let mut root: f64 = 0.0;
+    let number = rummyteak::rummyteak_sqrt(x, &mut root);
+    if number != 0 {
+        return number as u64;
     }
+    bits::pattern(root)
 }
 
 // The checksum of the roots of n generated patterns, the sign bit cleared.

@@ -26,7 +26,7 @@ fn root_above_zero(x: f64) -> f64
 }
 
 // The square root, rounded to the nearest value. A number below zero gives NaN, and -0 gives -0.
-pub fn square_root_by_digits(x: f64) -> f64
+pub(crate) fn square_root_by_digits(x: f64) -> f64
     ensures { λ r. ⌜ r ≡ sqrtOf x ⌝ }
 {
     if x < 0.0 {

@@ -1,5 +1,6 @@
 // A run under every limit, beside the same run without one. Before it, output and store are kept.
 use crate::buffers;
+use crate::cells::word_at;
 use crate::script;
 use crate::script::plain;
 
@@ -30,7 +31,7 @@ pub(crate) fn limits(line: &[u8], is_fit: bool, n: &mut [f64], words: &mut [u64]
     script::keep(n);
     again(line, 2, script::NO_LIMIT, n, words);
     plain::keep_plain(n, words);
-    let end = (script::word_at(words, 5) % 1000) as u32 + 3;
+    let end = (word_at(words, 5) % 1000) as u32 + 3;
     all_keep(line, is_fit, end, n, words)
 }
 

@@ -1,7 +1,9 @@
 // Numbers that aren't finite, put in every place of what is handed in.
 use crate::buffers;
+use crate::cells::number_at;
+use crate::cells::put;
+use crate::cells::word_at;
 use crate::script;
-use compare::answers;
 
 // NaN and both infinities.
 fn bad(k: u32) -> f64 {
@@ -14,9 +16,9 @@ fn bad(k: u32) -> f64 {
 
 // Whether a refusal was told by the number in word 3 of the line, with the count in word 7 and no unit.
 fn told_refusal(line: &[u8], words: &[u64]) -> bool {
-    let right0 = script::word_at(words, 0) == buffers::count(line, 3) as u64;
-    let right1 = script::word_at(words, 1) == buffers::count(line, 7) as u64;
-    let right2 = script::word_at(words, 2) == 0;
+    let right0 = word_at(words, 0) == buffers::count(line, 3) as u64;
+    let right1 = word_at(words, 1) == buffers::count(line, 7) as u64;
+    let right2 = word_at(words, 2) == 0;
     if right0 {
         if right1 {
             return right2;
@@ -27,10 +29,10 @@ fn told_refusal(line: &[u8], words: &[u64]) -> bool {
 
 // Whether the function that word 4 of the line names so refuses bad number k in place i, and leaves store and output as they were.
 fn is_refused(line: &[u8], i: usize, k: u32, n: &mut [f64], words: &mut [u64]) -> bool {
-    let old = answers::number_at(n, i);
-    answers::put(n, i, bad(k));
+    let old = number_at(n, i);
+    put(n, i, bad(k));
     crate::replay::ask(line, 4, 9, n, words);
-    answers::put(n, i, old);
+    put(n, i, old);
     if !told_refusal(line, words) {
         return false;
     }

@@ -1,11 +1,14 @@
 // Answers that are known by a checksum, and roots by their bits.
+use crate::asked;
 use crate::bits;
 use crate::buffers;
+use crate::cells::word_at;
 use crate::samples;
 use crate::script;
 use crate::tables::number;
 use crate::tables::whole;
 use crate::tables::word;
+use inscribed::store::WIDTH;
 
 // The questions of a sample: the first, and where there is one the second, of the circles that the first left.
 fn ask_both(
@@ -19,7 +22,7 @@ fn ask_both(
     let first = crate::replay::kind_of(word(line, 3));
     let second = word(line, 4);
     let how = whole(word(line, 5));
-    compare::ask(
+    asked::ask(
         first,
         section,
         args,
@@ -30,15 +33,15 @@ fn ask_both(
         out,
         told,
     );
-    if script::word_at(told, 0) != 0 {
+    if word_at(told, 0) != 0 {
         return;
     }
     if second.len() == 0 {
         return;
     }
-    let count = script::word_at(told, 1) as usize;
+    let count = word_at(told, 1) as usize;
     let kind = crate::replay::kind_of(second);
-    compare::ask(
+    asked::ask(
         kind,
         section,
         args,
@@ -56,7 +59,7 @@ pub(crate) fn sample(line: &[u8]) -> bool {
     let seed = whole(word(line, 1));
     let profile = samples::inputs::section(seed);
     let args = samples::inputs::args(seed);
-    let mut store = [0.0; 448];
+    let mut store = [0.0; 64 * WIDTH];
     let mut out = [0.0; 130];
     let mut told = [0; 3];
     let from = (seed % 2 * 2) as usize;

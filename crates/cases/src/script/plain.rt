@@ -1,15 +1,16 @@
 // A run beside the same run without a limit, whose output and store stand from PLAIN on, and whose words stand behind those of the other.
 use crate::buffers;
+use crate::cells::tell;
+use crate::cells::word_at;
 use crate::script;
-use crate::script::word_at;
-use compare::answers;
+use inscribed::store::WIDTH;
 
 // Keeps what a run left and what it told.
 pub(crate) fn keep_plain(n: &mut [f64], words: &mut [u64]) {
     buffers::copy(n, script::OUT, script::PLAIN, script::BOTH);
-    answers::tell(words, 3, word_at(words, 0));
-    answers::tell(words, 4, word_at(words, 1));
-    answers::tell(words, 5, word_at(words, 2));
+    tell(words, 3, word_at(words, 0));
+    tell(words, 4, word_at(words, 1));
+    tell(words, 5, word_at(words, 2));
 }
 
 // Whether two runs told the same.
@@ -43,15 +44,15 @@ fn is_spent(words: &[u64], limit: u32) -> bool {
 
 // Whether the store holds the first circles of the plain run's, as many as were told, and behind them what it held before.
 fn is_start(n: &[f64], words: &[u64]) -> bool {
-    let used = (word_at(words, 1) % 1101 * 7) as u32;
-    if !buffers::is_same(n, script::STORE, script::PLAIN + 8200, used) {
+    let used = (word_at(words, 1) % (script::SLOTS as u64 + 1) * WIDTH as u64) as u32;
+    if !buffers::is_same(n, script::STORE, script::PLAIN + script::ROOM, used) {
         return false;
     }
     buffers::is_same(
         n,
         script::STORE + used,
-        script::KEPT + 8200 + used,
-        7700 - used,
+        script::KEPT + script::ROOM + used,
+        script::SIZE - used,
     )
 }
 

@@ -52,10 +52,10 @@ use Rattle.lists.proofs.records.index_of_tmax_of as tmax
 use Rattle.lists.proofs.records.index_of_tmax_of.Symbol as tmax-def
 use Rattle.lists.proofs.records.index_of_tmax_of.Symbol.{name as #tmax}
 use Rattle.lists.proofs.records.index_of_tmax_of.Met as tmax-thm
-use Rattle.compare.proofs.asked.records.index_of_tmax_of_four.Key.{name as #four}
-use Rattle.compare.proofs.asked.records.index_of_tmax_of_four as f
-use Rattle.compare.proofs.asked.records.index_of_tmax_of_four.Statement as stated
-use Rattle.compare.proofs.asked.records.index_of_tmax_of_four.Code as code
+use Rattle.cases.proofs.asked.stores.index_of_tmax_of_four.Key.{name as #four}
+use Rattle.cases.proofs.asked.stores.index_of_tmax_of_four as f
+use Rattle.cases.proofs.asked.stores.index_of_tmax_of_four.Statement as stated
+use Rattle.cases.proofs.asked.stores.index_of_tmax_of_four.Code as code
 
 abbrev Four : RattleType
 Four = Array T.the-row 4
