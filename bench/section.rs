@@ -158,8 +158,8 @@ fn port_station(section: &[f64], x: f64, y: f64) -> Option<([f64; 5], usize)> {
 }
 
 fn port_crossing(section: &[f64], l: Line) -> Option<[f64; 4]> {
-    let mut crossing = [0.0; 4];
-    let number = unsafe { rummyteak_crossing_line(section.as_ptr(), section.len(), T, l.ox, l.oy, l.dx, l.dy, crossing.as_mut_ptr()) };
+    let (mut crossing, mut edges) = ([0.0; 4], [0; 2]);
+    let number = unsafe { rummyteak_crossing_line(section.as_ptr(), section.len(), T, l.ox, l.oy, l.dx, l.dy, crossing.as_mut_ptr(), &mut edges) };
     (number == 0).then_some(crossing)
 }
 
@@ -262,8 +262,13 @@ fn run(edges: usize, open: bool, whole: bool, once: bool) -> Left {
             let (mut count, mut units) = (0, 0);
             let [ox, oy, dx, dy] = line;
             let (p, n, s, l) = (section.as_ptr(), section.len(), store.as_mut_ptr(), store.len());
-            let proved = if whole { rummyteak_extract_circles } else { rummyteak_march };
-            let (time, number) = timed(|| unsafe { proved(p, n, T, G, ox, oy, dx, dy, s, l, u32::MAX, &mut count, &mut units) });
+            let (mut edges, mut found) = ([0; 2], false);
+            let (time, number) = timed(|| unsafe {
+                match whole {
+                    true => rummyteak_extract_circles(p, n, T, G, ox, oy, dx, dy, s, l, u32::MAX, &mut count, &mut units),
+                    false => rummyteak_march(p, n, T, G, ox, oy, dx, dy, s, l, u32::MAX, &mut count, &mut units, &mut edges, &mut found),
+                }
+            });
             assert_eq!(number, 0);
             (time, Left { numbers: store, units })
         }),

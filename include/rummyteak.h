@@ -115,12 +115,13 @@ uint32_t rummyteak_at_closest_to_point(const double *section, size_t section_len
 uint32_t rummyteak_length_along(const double *section, size_t section_len, double tol, size_t index, double fraction,
                                 double *length);
 
-/* Where a line crosses the section: crossing is 4 numbers, origin and direction from the first hit to the second. The joined
- * crossing counts hits nearer than 1e-8 to the last kept one as one with it. */
+/* Where a line crosses the section: crossing is 4 numbers, origin and direction from the first hit to the second; edges is 2,
+ * the edges of the first hit and the second. The joined crossing counts hits nearer than 1e-8 to the last kept one as one
+ * with it, and tells the kept hits' edges. */
 uint32_t rummyteak_crossing_line(const double *section, size_t section_len, double tol, double ox, double oy, double dx,
-                                 double dy, double *crossing);
+                                 double dy, double *crossing, size_t *edges);
 uint32_t rummyteak_joined_crossing(const double *section, size_t section_len, double tol, double ox, double oy,
-                                   double dx, double dy, double *crossing);
+                                   double dx, double dy, double *crossing, size_t *edges);
 
 /* ---- one circle or two; circle, a and b are RUMMYTEAK_WIDTH numbers */
 
@@ -128,9 +129,9 @@ uint32_t rummyteak_joined_crossing(const double *section, size_t section_len, do
 uint32_t rummyteak_inscribed_from_crossing(const double *section, size_t section_len, double section_tol, double tol,
                                            double ox, double oy, double dx, double dy, double *circle);
 
-/* The circle on a line. */
+/* The circle on a line, and the 2 edges of the line's crossing. */
 uint32_t rummyteak_try_inscribed(const double *section, size_t section_len, double section_tol, double tol, double ox,
-                                 double oy, double dx, double dy, double *circle);
+                                 double oy, double dx, double dy, double *circle, size_t *edges);
 
 /* The trial between two circles, a the earlier: whether one is to be added, and then which. */
 uint32_t rummyteak_inscribed_refined(const double *section, size_t section_len, double section_tol, double tol,
@@ -143,10 +144,11 @@ uint32_t rummyteak_refine_and_push(const double *section, size_t section_len, do
                                    double *store, size_t store_len, size_t stated, const double *circle, uint32_t limit,
                                    size_t *count, uint32_t *units);
 
-/* The circles on one side of a line, and on both sides. The store's content doesn't count. */
+/* The circles on one side of a line, and on both sides. The store's content doesn't count. A march that was not refused on
+ * entry writes found, whether its line has a crossing, and where it has one the crossing's 2 edges, whichever way it ends. */
 uint32_t rummyteak_march(const double *section, size_t section_len, double section_tol, double tol, double ox, double oy,
                          double dx, double dy, double *store, size_t store_len, uint32_t limit, size_t *count,
-                         uint32_t *units);
+                         uint32_t *units, size_t *edges, bool *found);
 uint32_t rummyteak_extract_circles(const double *section, size_t section_len, double section_tol, double tol, double ox,
                                    double oy, double dx, double dy, double *store, size_t store_len, uint32_t limit,
                                    size_t *count, uint32_t *units);

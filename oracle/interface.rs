@@ -13,16 +13,18 @@ unsafe extern "C" {
     pub fn rummyteak_at_length(p: In, n: usize, tol: f64, length: f64, station: Out, index: &mut usize) -> u32;
     pub fn rummyteak_at_closest_to_point(p: In, n: usize, tol: f64, x: f64, y: f64, station: Out, index: &mut usize) -> u32;
     pub fn rummyteak_length_along(p: In, n: usize, tol: f64, index: usize, fraction: f64, length: Out) -> u32;
-    pub fn rummyteak_crossing_line(p: In, n: usize, tol: f64, ox: f64, oy: f64, dx: f64, dy: f64, crossing: Out) -> u32;
+    pub fn rummyteak_crossing_line(p: In, n: usize, tol: f64, ox: f64, oy: f64, dx: f64, dy: f64, crossing: Out, edges: &mut [usize; 2]) -> u32;
     pub fn rummyteak_inscribed_from_crossing(p: In, n: usize, section_tol: f64, tol: f64, ox: f64, oy: f64, dx: f64, dy: f64, circle: Out) -> u32;
-    pub fn rummyteak_try_inscribed(p: In, n: usize, section_tol: f64, tol: f64, ox: f64, oy: f64, dx: f64, dy: f64, circle: Out) -> u32;
+    pub fn rummyteak_try_inscribed(
+        p: In, n: usize, section_tol: f64, tol: f64, ox: f64, oy: f64, dx: f64, dy: f64, circle: Out, edges: &mut [usize; 2],
+    ) -> u32;
     pub fn rummyteak_inscribed_refined(p: In, n: usize, section_tol: f64, tol: f64, a: In, b: In, circle: Out, added: &mut bool) -> u32;
     pub fn rummyteak_refine_and_push(
         p: In, n: usize, section_tol: f64, tol: f64, s: Out, l: usize, stated: usize, circle: In, limit: u32, count: &mut usize, units: &mut u32,
     ) -> u32;
     pub fn rummyteak_march(
         p: In, n: usize, section_tol: f64, tol: f64, ox: f64, oy: f64, dx: f64, dy: f64, s: Out, l: usize, limit: u32, count: &mut usize,
-        units: &mut u32,
+        units: &mut u32, edges: &mut [usize; 2], found: &mut bool,
     ) -> u32;
     pub fn rummyteak_extract_circles(
         p: In, n: usize, section_tol: f64, tol: f64, ox: f64, oy: f64, dx: f64, dy: f64, s: Out, l: usize, limit: u32, count: &mut usize,

@@ -28,6 +28,8 @@ fn check_curvature_upper(_: &InscribedVec) -> Result<bool> {
 // What the Rust answers: the number of its None or Err (0 for a value), then the words and numbers to be found.
 struct Wanted {
     number: u64,
+    // The edges of a crossing.
+    edges: Option<[usize; 2]>,
     words: Vec<u64>,
     numbers: Vec<f64>,
     // The circles in use afterwards, where there is a store.
@@ -36,19 +38,19 @@ struct Wanted {
 
 impl Wanted {
     fn none(number: u64) -> Self {
-        Wanted { number, words: vec![], numbers: vec![], circles: None }
+        Wanted { number, edges: None, words: vec![], numbers: vec![], circles: None }
     }
 
     fn value(words: Vec<u64>, numbers: Vec<f64>) -> Self {
-        Wanted { number: 0, words, numbers, circles: None }
+        Wanted { number: 0, edges: None, words, numbers, circles: None }
     }
 
     fn run(circles: Vec<Inscribed>, units: u64, numbers: Vec<f64>) -> Self {
-        Wanted { number: 0, words: vec![circles.len() as u64, units], numbers, circles: Some(circles) }
+        Wanted { number: 0, edges: None, words: vec![circles.len() as u64, units], numbers, circles: Some(circles) }
     }
 
     fn list(circles: Vec<Inscribed>, words: Vec<u64>) -> Self {
-        Wanted { number: 0, words, numbers: vec![], circles: Some(circles) }
+        Wanted { number: 0, edges: None, words, numbers: vec![], circles: Some(circles) }
     }
 }
 
@@ -142,6 +144,13 @@ fn extraction(input: &SectionInput, line: &Line2) -> Result<Wanted> {
     Ok(Wanted::run(list.take_vec(), units(2), vec![]))
 }
 
+// The edges of the hits that `crossing_line` counts and drops.
+fn with_edges(want: Wanted, input: &SectionInput, line: &Line2) -> Wanted {
+    let hits = input.section.intersections_with_line(line);
+    let edges = if hits.len() == 2 { Some([hits[0].1, hits[1].1]) } else { None };
+    Wanted { edges, ..want }
+}
+
 // The units of the run just made: lines tried, less those of start lines and probes.
 fn units(free: u64) -> u64 {
     TRIED.load(Ordering::Relaxed) - SHIFTED.load(Ordering::Relaxed) - free
@@ -161,6 +170,7 @@ fn wanted(call: Call, section: &[f64], args: &[f64], store: &[f64]) -> Wanted {
     let curve = Curve2::from_points(&points_of(section), args[0], false).unwrap();
     assert_eq!(curve.count(), section.len() / 2);
     let input = SectionInput::new(&curve, args[1]);
+    let crossed = |want: Wanted| with_edges(want, &input, &line_at(&args[2..]));
     match call {
         Call::Reversed => curve_answer(curve.reversed()),
         Call::IsClosed => Wanted::value(vec![curve.is_closed() as u64], vec![]),
@@ -174,16 +184,16 @@ fn wanted(call: Call, section: &[f64], args: &[f64], store: &[f64]) -> Wanted {
             Wanted::value(vec![], vec![s.length_along()])
         }
         Call::Closest => station_answer(curve.at_closest_to_point(&Point2::new(args[2], args[3]))),
-        Call::CrossingLine => input.crossing_line(&line_at(&args[2..])).map_or(Wanted::none(8), |l| Wanted::value(vec![], line_numbers(l))),
+        Call::CrossingLine => crossed(input.crossing_line(&line_at(&args[2..])).map_or(Wanted::none(8), |l| Wanted::value(vec![], line_numbers(l)))),
         Call::FromCrossing => circle_answer(Some(input.inscribed_from_crossing(&line_at(&args[2..]))), 0),
-        Call::TryInscribed => circle_answer(input.try_inscribed(&line_at(&args[2..])), 8),
+        Call::TryInscribed => crossed(circle_answer(input.try_inscribed(&line_at(&args[2..])), 8)),
         Call::Refined => circle_answer(input.inscribed_refined(&circle_at(&args[2..]), &circle_at(&args[9..])), 99),
         Call::RefineAndPush(count) => {
             let mut list = InscribedVec::new(circles_of(store, count));
             list.refine_and_push(circle_at(&args[2..]), &input);
             Wanted::run(list.take_vec(), units(0), vec![])
         }
-        Call::March => or_number(march(&input, &line_at(&args[2..]))),
+        Call::March => crossed(or_number(march(&input, &line_at(&args[2..])))),
         Call::Extract => or_number(extraction(&input, &line_at(&args[2..]))),
         Call::FitOpenEdge(count, front) => or_number(
             fit_open_edge(&input, circles_of(store, count), front).map(|fit| Wanted::run(fit.circles, units(0), point(fit.edge.point))),
@@ -270,6 +280,9 @@ fn same(a: &[f64], b: &[f64]) -> bool {
 fn difference(call: Call, got: &port::Answer, want: &Wanted, store: &[f64]) -> Option<String> {
     if got.told[0] != want.number {
         return Some(format!("number {} wanted {}", got.told[0], want.number));
+    }
+    if got.edges != want.edges {
+        return Some(format!("edges {:?} wanted {:?}", got.edges, want.edges));
     }
     let is_run = matches!(call, Call::RefineAndPush(_) | Call::March | Call::Extract | Call::FitOpenEdge(..));
     if want.number != 0 {

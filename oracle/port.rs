@@ -40,9 +40,10 @@ pub enum Call {
     OrientUpperLower(u64, usize),
 }
 
-// What a call leaves: the words told (the number first, 99 where a trial adds nothing), the numbers put out, and the store.
+// What a call leaves: the words told (the number first, 99 where a trial adds nothing), the edges of a crossing where they are told, the numbers put out, and the store.
 pub struct Answer {
     pub told: [u64; 3],
+    pub edges: Option<[usize; 2]>,
     pub out: Vec<f64>,
     pub store: Vec<f64>,
 }
@@ -59,6 +60,7 @@ pub fn call(call: Call, section: &[f64], args: &[f64], store: &[f64]) -> Answer 
     let mut out = vec![REST; room];
     let mut store = store.to_vec();
     let (mut count, mut units, mut yes) = (0usize, 0u32, false);
+    let mut edges = [0; 2];
     let (p, n, s, l, o, m) = (section.as_ptr(), section.len(), store.as_mut_ptr(), store.len(), out.as_mut_ptr(), out.len());
     // The two tolerances, then a length, a point, a vector or a line; or circles.
     let [t, g, x, y, dx, dy] = std::array::from_fn(|i| args.get(i).copied().unwrap_or(f64::NAN));
@@ -75,15 +77,15 @@ pub fn call(call: Call, section: &[f64], args: &[f64], store: &[f64]) -> Answer 
             Call::AtLength => rummyteak_at_length(p, n, t, x, o, &mut count),
             Call::LengthAlong(index) => rummyteak_length_along(p, n, t, index, x, o),
             Call::Closest => rummyteak_at_closest_to_point(p, n, t, x, y, o, &mut count),
-            Call::CrossingLine => rummyteak_crossing_line(p, n, t, x, y, dx, dy, o),
+            Call::CrossingLine => rummyteak_crossing_line(p, n, t, x, y, dx, dy, o, &mut edges),
             Call::FromCrossing => rummyteak_inscribed_from_crossing(p, n, t, g, x, y, dx, dy, o),
-            Call::TryInscribed => rummyteak_try_inscribed(p, n, t, g, x, y, dx, dy, o),
+            Call::TryInscribed => rummyteak_try_inscribed(p, n, t, g, x, y, dx, dy, o, &mut edges),
             Call::Refined => match rummyteak_inscribed_refined(p, n, t, g, circle(0), circle(1), o, &mut yes) {
                 0 if !yes => 99,
                 number => number,
             },
             Call::RefineAndPush(stated) => rummyteak_refine_and_push(p, n, t, g, s, l, stated, circle(0), NO_LIMIT, &mut count, &mut units),
-            Call::March => rummyteak_march(p, n, t, g, x, y, dx, dy, s, l, NO_LIMIT, &mut count, &mut units),
+            Call::March => rummyteak_march(p, n, t, g, x, y, dx, dy, s, l, NO_LIMIT, &mut count, &mut units, &mut edges, &mut yes),
             Call::Extract => rummyteak_extract_circles(p, n, t, g, x, y, dx, dy, s, l, NO_LIMIT, &mut count, &mut units),
             Call::FitOpenEdge(stated, front) => rummyteak_fit_open_edge(p, n, t, g, s, l, stated, front, NO_LIMIT, o, &mut count, &mut units),
             Call::IsOpenAtEnd(stated, front) => rummyteak_is_open_at_end(p, n, t, g, s, l, stated, front, &mut yes),
@@ -108,5 +110,10 @@ pub fn call(call: Call, section: &[f64], args: &[f64], store: &[f64]) -> Answer 
         Call::IsClosed | Call::IsOpenAtEnd(..) | Call::OrientFwdAft(..) | Call::OrientUpperLower(..) => (yes as u64, 0),
         _ => (count as u64, units as u64),
     };
-    Answer { told: [number as u64, first, second], out, store }
+    let has_edges = match call {
+        Call::CrossingLine | Call::TryInscribed => number == 0,
+        Call::March => yes,
+        _ => false,
+    };
+    Answer { told: [number as u64, first, second], edges: has_edges.then_some(edges), out, store }
 }

@@ -88,7 +88,7 @@ impl Left {
         if is_added(number) {
             return None;
         }
-        let Wanted { number, words, numbers, circles } = wanted(call, section, args, &self.store);
+        let Wanted { number, words, numbers, circles, .. } = wanted(call, section, args, &self.store);
         self.told[0] = number;
         self.told[1..1 + words.len()].copy_from_slice(&words);
         self.out[..numbers.len()].copy_from_slice(&numbers);

@@ -147,7 +147,7 @@ static void cleaning(void)
 static void sections(void)
 {
     double *r = copy(R, RLEN), *u = copy(R, ULEN), *odd = copy(R, 3), *station = marked(5), *crossing = marked(4), x = MARK;
-    size_t index = 77;
+    size_t index = 77, edges[2] = {77, 77};
     bool yes = false;
     EXPECT(rummyteak_is_closed(r, RLEN, T, &yes) == 0 && yes);
     EXPECT(rummyteak_is_closed(u, ULEN, T, &yes) == 0 && !yes);
@@ -172,14 +172,17 @@ static void sections(void)
     EXPECT(rummyteak_at_closest_to_point(r, RLEN, T, 4, -1, station, &index) == 0 && station[0] == 4 && station[1] == 0);
     EXPECT(rummyteak_length_along(r, RLEN, T, 1, 0.5, &x) == 0 && x == 9);
     EXPECT(rummyteak_length_along(r, RLEN, T, 4, 0.5, &x) == 4 && x == 9);
-    EXPECT(rummyteak_crossing_line(r, RLEN, T, 4, 1, 0, 1, crossing) == 0);
+    EXPECT(rummyteak_crossing_line(r, RLEN, T, 4, 1, 0, 1, crossing, edges) == 0 && edges[0] == 0 && edges[1] == 2);
+    EXPECT(rummyteak_crossing_line(r, RLEN, T, 0, 0, 1, -1, crossing, edges) == 0 && edges[0] == 0 && edges[1] == 3);
+    EXPECT(rummyteak_crossing_line(r, RLEN, T, 4, 1, 0, 1, crossing, edges) == 0);
+    edges[0] = edges[1] = 77;
     EXPECT(crossing[0] == 4 && crossing[1] == 0 && crossing[2] == 0 && crossing[3] == 2);
     for (size_t i = 0; i < 4; i++)
         crossing[i] = MARK;
-    EXPECT(rummyteak_crossing_line(r, RLEN, T, 4, 1, 4, 1, crossing) == 8 && untouched(crossing, 0, 4));
-    EXPECT(rummyteak_joined_crossing(r, RLEN, T, 4, 1, 4, 1, crossing) == 0);
+    EXPECT(rummyteak_crossing_line(r, RLEN, T, 4, 1, 4, 1, crossing, edges) == 8 && untouched(crossing, 0, 4) && edges[0] == 77 && edges[1] == 77);
+    EXPECT(rummyteak_joined_crossing(r, RLEN, T, 4, 1, 4, 1, crossing, edges) == 0 && edges[0] == 0 && edges[1] == 1);
     EXPECT(crossing[0] == 0 && crossing[1] == 0 && crossing[2] == 8 && crossing[3] == 2);
-    EXPECT(rummyteak_joined_crossing(r, RLEN, T, 20, 1, 0, 1, crossing) == 8);
+    EXPECT(rummyteak_joined_crossing(r, RLEN, T, 20, 1, 0, 1, crossing, edges) == 8);
     release(r), release(u), release(odd), release(station), release(crossing);
 }
 
@@ -188,11 +191,13 @@ static void circles(void)
     const double want[] = {4, 1.00048828125, 0.99951171875, 4, 0, 4, 2};
     double *r = copy(R, RLEN), *c = marked(W), *a = copy(PAIR, W), *b = copy(PAIR + W, W);
     bool added = true;
+    size_t edges[2] = {77, 77};
     EXPECT(rummyteak_inscribed_from_crossing(r, RLEN, T, G, 4, 0, 0, 2, c) == 0 && same(c, want, W));
-    EXPECT(rummyteak_try_inscribed(r, RLEN, T, G, 4, 1, 0, 1, c) == 0 && same(c, want, W));
+    EXPECT(rummyteak_try_inscribed(r, RLEN, T, G, 4, 1, 0, 1, c, edges) == 0 && same(c, want, W) && edges[0] == 0 && edges[1] == 2);
+    edges[0] = edges[1] = 77;
     for (size_t i = 0; i < W; i++)
         c[i] = MARK;
-    EXPECT(rummyteak_try_inscribed(r, RLEN, T, G, 20, 1, 0, 1, c) == 8);
+    EXPECT(rummyteak_try_inscribed(r, RLEN, T, G, 20, 1, 0, 1, c, edges) == 8 && edges[0] == 77 && edges[1] == 77);
     EXPECT(rummyteak_inscribed_from_crossing(r, RLEN, T, 1e-7, 4, 0, 0, 2, c) == 3);
     EXPECT(rummyteak_inscribed_refined(r, RLEN, T, G, a, b, c, &added) == 0 && !added && untouched(c, 0, W));
     a[2] = -1, added = true;
@@ -203,23 +208,32 @@ static void circles(void)
 static void runs(void)
 {
     double *r = copy(R, RLEN), *odd = copy(R, 5), *circle = copy(PAIR + W, W);
-    size_t count = 77, full = 77;
+    size_t count = 77, full = 77, edges[2] = {77, 77};
     uint32_t units = 77, all = 77;
+    bool found = false;
     double *big = marked(W * 200), *small = marked(W * 200), *none = marked(W - 1);
-    EXPECT(rummyteak_march(r, RLEN, T, G, 4, 1, 0, 1, big, W * 200, RUMMYTEAK_NO_LIMIT, &full, &all) == 0);
+    EXPECT(rummyteak_march(r, RLEN, T, G, 4, 1, 0, 1, big, W * 200, RUMMYTEAK_NO_LIMIT, &full, &all, edges, &found) == 0);
+    EXPECT(found && edges[0] == 0 && edges[1] == 2);
     EXPECT(full > 0 && all > 0 && untouched(big, W * full, W * 200));
     for (uint32_t limit = 0; limit <= all + 1; limit++) {
         for (size_t i = 0; i < W * 200; i++)
             small[i] = MARK;
-        uint32_t n = rummyteak_march(r, RLEN, T, G, 4, 1, 0, 1, small, W * 200, limit, &count, &units);
+        edges[0] = edges[1] = 77, found = false;
+        uint32_t n = rummyteak_march(r, RLEN, T, G, 4, 1, 0, 1, small, W * 200, limit, &count, &units, edges, &found);
+        EXPECT(found && edges[0] == 0 && edges[1] == 2);
         EXPECT((n == 14) == (limit < all) && units == (limit < all ? limit : all));
         EXPECT(count <= full && same(small, big, W * count) && untouched(small, W * count, W * 200));
     }
     count = 77, units = 77;
-    EXPECT(rummyteak_march(r, RLEN, T, G, 4, 1, 0, 1, none, W - 1, 9, &count, &units) == 15 && count == 0 && units == 0);
-    EXPECT(rummyteak_march(r, RLEN, T, G, 20, 1, 0, 1, none, W - 1, 9, &count, &units) == 8 && count == 0 && units == 0);
+    EXPECT(rummyteak_march(r, RLEN, T, G, 4, 1, 0, 1, none, W - 1, 9, &count, &units, edges, &found) == 15 && count == 0 && units == 0);
+    EXPECT(found && edges[0] == 0 && edges[1] == 2);
+    edges[0] = edges[1] = 77;
+    EXPECT(rummyteak_march(r, RLEN, T, G, 20, 1, 0, 1, none, W - 1, 9, &count, &units, edges, &found) == 8 && count == 0 && units == 0);
+    EXPECT(!found && edges[0] == 77 && edges[1] == 77);
+    found = true;
     count = 77, units = 77;
-    EXPECT(rummyteak_march(r, RLEN, T, NAN, 4, 1, 0, 1, none, W - 1, 9, &count, &units) == 3 && count == 77 && units == 77);
+    EXPECT(rummyteak_march(r, RLEN, T, NAN, 4, 1, 0, 1, none, W - 1, 9, &count, &units, edges, &found) == 3 && count == 77 && units == 77);
+    EXPECT(found && edges[0] == 77 && edges[1] == 77);
     EXPECT(rummyteak_extract_circles(odd, 5, T, G, 4, 1, 0, 1, none, W - 1, 9, &count, &units) == 1 && count == 77);
     EXPECT(untouched(none, 0, W - 1));
     for (size_t i = 0; i < W * 200; i++)

@@ -24,13 +24,14 @@ LEFT_OUT = {"sample", "roots", "rot90", "normalize", "halfway", "intersection_pa
 NAMES = {name[len("orient_") :]: name for name in _arguments if name.startswith("orient_")}
 
 # What is handed to a function in C: S section, K store, R output, t and g tolerances, x p l a number, a point or vector and a line among the arguments, a b circles there, n the count or
-# place, y yes or no, u the limit. Then where the answer goes: a digit is so many numbers of the output, C a circle; N and B and U are told, in this order.
+# place, y yes or no, u the limit. Then where the answer goes: a digit is so many numbers of the output, C a circle; N and B and U are told, in this order. E is the two
+# edges of a crossing, and F whether they were found.
 IN_C = {
     "sqrt": "x 1", "from_points": "S t y R N B", "reversed": "S t R N B", "is_closed": "S t B", "length": "S t 1",
     "at_front": "S t 5 N", "at_back": "S t 5 N", "at_vertex": "S t n 5 N", "at_length": "S t x 5 N", "at_closest_to_point": "S t p 5 N",
-    "length_along": "S t n x 1", "crossing_line": "S t l 4", "joined_crossing": "S t l 4",
-    "inscribed_from_crossing": "S t g l C", "try_inscribed": "S t g l C", "inscribed_refined": "S t g a b C B",
-    "refine_and_push": "S t g K n a u N U", "march": "S t g l K u N U", "extract_circles": "S t g l K u N U",
+    "length_along": "S t n x 1", "crossing_line": "S t l 4 E", "joined_crossing": "S t l 4 E",
+    "inscribed_from_crossing": "S t g l C", "try_inscribed": "S t g l C E", "inscribed_refined": "S t g a b C B",
+    "refine_and_push": "S t g K n a u N U", "march": "S t g l K u N U E F", "extract_circles": "S t g l K u N U",
     "front_and_back": "K n C C", "index_of_tmax": "K n N", "average_spacing": "K n 1", "end_clip_line": "K n 4",
     "reverse_points": "K n", "reverse_order_only": "K n", "reverse_order": "K n", "circles_from": "K n y N N",
     "camber_curve": "K n t R N B", "make_camber_curve": "l K n t R N B",
@@ -52,6 +53,7 @@ IN_PYTHON = {
     "is_open_at_end": "S t g k y", "fit_open_edge": "S t g k y u s",
 }
 
+TOLD = 6  # words that are told
 SIZE = 10_000  # numbers of a store or an output at most
 BAD = (float("nan"), float("inf"), float("-inf"))
 
@@ -76,7 +78,7 @@ class Table:
     """What the lines have set, and what was told."""
 
     def __init__(self) -> None:
-        self.section, self.args, self.told, self.given = array("d"), [0.0] * 32, [0, 0, 0], ()
+        self.section, self.args, self.told, self.given = array("d"), [0.0] * 32, [0] * TOLD, ()
         self.store, self.out = (ctypes.c_double * SIZE)(), (ctypes.c_double * SIZE)()
         self.store_len = self.out_len = 0
         self.store_mark = self.out_mark = 0.0
@@ -118,7 +120,7 @@ class Table:
 
     def ask_in_c(self, name: str, place: int, yes: int, limit: int):
         """Calls the function, puts what it writes into output and store, and returns the numbers that it answered."""
-        handed, answers, told = [], [], []
+        handed, answers, told, edges, found = [], [], [], (ctypes.c_size_t * 2)(), None
         for sign in IN_C[name].split():
             if sign in "SKR":
                 numbers, length = {"S": (rt._numbers(self.section), len(self.section)), "K": (self.store, self.store_len), "R": (self.out, self.out_len)}[sign]
@@ -128,6 +130,11 @@ class Table:
             elif sign in "NBU":
                 told.append({"N": ctypes.c_size_t, "B": ctypes.c_bool, "U": ctypes.c_uint32}[sign]())
                 handed.append(told[-1])
+            elif sign == "E":
+                handed.append(edges)
+            elif sign == "F":
+                found = ctypes.c_bool()
+                handed.append(found)
             elif sign.isdigit() or sign == "C":
                 answers.append((ctypes.c_double * (rt.WIDTH if sign == "C" else int(sign)))())
                 at = sum(map(len, answers[:-1]))
@@ -147,7 +154,8 @@ class Table:
             result, words = (result, []) if result or words[0] else (99, [])
         elif "R" in IN_C[name].split():
             written = self.out[: 2 * words[0]]
-        self.told = ([result, *words] + [0, 0])[:3]
+        has_edges = found.value if found is not None else "E" in IN_C[name].split() and result == 0
+        self.told = ([result, *words] + [0, 0])[:3] + [int(has_edges), *edges]
         return [] if result else written
 
     # ---- lines
@@ -186,7 +194,7 @@ class Table:
         self.ask(words[1], whole(words, 2), whole(words, 3), whole(words, 4) if len(words) > 4 else rt.NO_LIMIT)
 
     def do_told(self, words):
-        return self.told == [whole(words, k) for k in (1, 2, 3)]
+        return self.told == [whole(words, k) for k in range(1, TOLD + 1)]
 
     def do_gives(self, words):
         return bits(self.out) == bits([number(w) for w in words[1:]] + [self.out_mark] * (SIZE - len(words) + 1))
@@ -214,7 +222,7 @@ class Table:
                 old, held[place] = held[place], value
                 self.ask(words[4], whole(words, 5), whole(words, 6), 9)
                 held[place] = old
-                if self.told != [whole(words, 3), whole(words, 7), 0] or self.kept != (bytes(self.out), bytes(self.store)):
+                if self.told != [whole(words, 3), whole(words, 7)] + [0] * (TOLD - 2) or self.kept != (bytes(self.out), bytes(self.store)):
                     return False
 
     def run(self, name, place, yes, limit):
@@ -234,7 +242,7 @@ class Table:
                     return False
                 continue
             used = 8 * rt.WIDTH * told[1]
-            if told[0] != 14 or told[2] != limit or not (is_fit or store == plain[2][:used] + self.kept[1][used:]):
+            if told[0] != 14 or told[2] != limit or told[3:] != plain[0][3:] or not (is_fit or store == plain[2][:used] + self.kept[1][used:]):
                 return False
 
     def do_fits(self, words):
@@ -242,7 +250,12 @@ class Table:
 
     def do_agree(self, words):
         self.do_keep()
-        return all(self.run(words[2], 0, 0, limit) == self.run(words[3], 0, 0, limit) for limit in range(whole(words, 1)))
+
+        def but_edges(name, limit):
+            told, out, store = self.run(name, 0, 0, limit)
+            return told[:3], out, store
+
+        return all(but_edges(words[2], limit) == but_edges(words[3], limit) for limit in range(whole(words, 1)))
 
 
 def in_python(name: str, handed):
@@ -250,7 +263,18 @@ def in_python(name: str, handed):
     try:
         answer = getattr(rt, name)(*handed)
     except rt.Refused as refused:
-        return [refused.number, 0, 0], [], None
+        return [refused.number] + [0] * (TOLD - 1), [], None
+    edges = getattr(answer, "edges", None)
+    told, numbers, circles = answered(name, answer)
+    return told + ([1, *edges] if edges else [0, 0, 0]), numbers, circles
+
+
+def answered(name: str, answer):
+    """The same of an answer, edges aside."""
+    if isinstance(answer, rt.Crossing):
+        return [0, 0, 0], list(answer.line), None
+    if isinstance(answer, rt.CircleOnLine):
+        return [0, 0, 0], list(answer.circle), None
     if isinstance(answer, (rt.Run, rt.Fit)):
         return [answer.number, len(answer.circles), answer.units], list(getattr(answer, "point", None) or ()), [x for c in answer.circles for x in c]
     if isinstance(answer, rt.Curve2):

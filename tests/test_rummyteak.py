@@ -75,13 +75,14 @@ class Rows(unittest.TestCase):
         self.assertEqual(rt.length_along(R, T, 1, 0.5), 9)
 
     def test_crossings(self):
-        self.assertEqual(rt.crossing_line(R, T, (4, 1, 0, 1)), rt.Line2(4, 0, 0, 2))
+        self.assertEqual(rt.crossing_line(R, T, (4, 1, 0, 1)), rt.Crossing(rt.Line2(4, 0, 0, 2), (0, 2)))
+        self.assertEqual(rt.crossing_line(R, T, (0, 0, 1, -1)).edges, (0, 3))
         self.refused(8, rt.crossing_line, R, T, (4, 1, 4, 1))
-        self.assertEqual(rt.joined_crossing(R, T, (4, 1, 4, 1)), rt.Line2(0, 0, 8, 2))
+        self.assertEqual(rt.joined_crossing(R, T, (4, 1, 4, 1)), rt.Crossing(rt.Line2(0, 0, 8, 2), (0, 1)))
 
     def test_circles(self):
         self.assertEqual(rt.inscribed_from_crossing(R, T, G, (4, 0, 0, 2)), UNIT)
-        self.assertEqual(rt.try_inscribed(R, T, G, (4, 1, 0, 1)), UNIT)
+        self.assertEqual(rt.try_inscribed(R, T, G, (4, 1, 0, 1)), rt.CircleOnLine(UNIT, (0, 2)))
         self.assertIsNone(rt.inscribed_refined(R, T, G, *PAIR))
         self.refused(3, rt.try_inscribed, R, T, 1e-7, (4, 1, 0, 1))
 
@@ -122,6 +123,7 @@ class Rows(unittest.TestCase):
         plain = rt.march(R, T, G, (4, 1, 0, 1))
         for limit in range(plain.units + 2):
             run = rt.march(R, T, G, (4, 1, 0, 1), limit)
+            self.assertEqual(run.edges, (0, 2))
             self.assertEqual(run.number == 14, limit < plain.units)
             self.assertEqual(run.units, min(limit, plain.units))
             self.assertEqual(run.circles, plain.circles[: len(run.circles)])

@@ -21,7 +21,7 @@ from typing import Any, Iterable, List, NamedTuple, Optional, Sequence, Tuple, U
 from ._library import NO_LIMIT, SLOTS, WORDS, call, real, whole
 
 __all__ = [
-    "Refused", "Curve2", "CurveStation2", "Line2", "Inscribed", "Run", "Fit", "NO_LIMIT", "SLOTS", "WIDTH", "WORDS",
+    "Refused", "Curve2", "CurveStation2", "Line2", "Crossing", "Inscribed", "CircleOnLine", "Run", "March", "Fit", "NO_LIMIT", "SLOTS", "WIDTH", "WORDS",
     "sqrt", "from_points", "reversed", "is_closed", "length", "at_front", "at_back", "at_vertex", "at_length", "at_closest_to_point",
     "length_along", "crossing_line", "joined_crossing", "inscribed_from_crossing", "try_inscribed", "inscribed_refined",
     "refine_and_push", "march", "extract_circles", "front_and_back", "index_of_tmax", "average_spacing", "end_clip_line",
@@ -75,6 +75,14 @@ class Line2(NamedTuple):
     dy: float
 
 
+@dataclass(frozen=True)
+class Crossing:
+    """Where a line crosses a section: the line from the first hit to the second, and the edges of both."""
+
+    line: Line2
+    edges: Tuple[int, int]
+
+
 class Inscribed(NamedTuple):
     """An inscribed circle: centre, radius and both contacts, in stored order."""
 
@@ -107,6 +115,14 @@ class Inscribed(NamedTuple):
         return (self.p1x, self.p1y)
 
 
+@dataclass(frozen=True)
+class CircleOnLine:
+    """The circle on a line, and the edges of the line's crossing."""
+
+    circle: Inscribed
+    edges: Tuple[int, int]
+
+
 # Numbers to a circle.
 WIDTH = len(Inscribed._fields)
 
@@ -123,6 +139,13 @@ class Run:
     def ending(self) -> str:
         """The ending in words."""
         return WORDS[self.number]
+
+
+@dataclass(frozen=True)
+class March(Run):
+    """A march that began: a run, and the edges of its line's crossing; None where the line has none."""
+
+    edges: Optional[Tuple[int, int]]
 
 
 @dataclass(frozen=True)
@@ -149,6 +172,7 @@ Line = Union[Line2, Sequence[float]]
 
 _OWN_ORDER = "<" if sys.byteorder == "little" else ">"
 _Single = ctypes.c_double * WIDTH
+_Edges = ctypes.c_size_t * 2
 
 
 def _flat(points: Iterable[Any]) -> Any:
@@ -313,19 +337,19 @@ def length_along(section: Points, tol: float, index: int, fraction: float) -> fl
     return answer.value
 
 
-def _crossing(name: str, section: Points, tol: float, line: Line) -> Line2:
+def _crossing(name: str, section: Points, tol: float, line: Line) -> Crossing:
     p = _numbers(section)
-    numbers = (ctypes.c_double * 4)()
-    _ask(name, p, len(p), tol, *_line(line), numbers)
-    return Line2(*numbers)
+    numbers, edges = (ctypes.c_double * 4)(), _Edges()
+    _ask(name, p, len(p), tol, *_line(line), numbers, edges)
+    return Crossing(Line2(*numbers), (edges[0], edges[1]))
 
 
-def crossing_line(section: Points, tol: float, line: Line) -> Line2:
-    """The crossing of a line that has exactly two hits: from the first to the second."""
+def crossing_line(section: Points, tol: float, line: Line) -> Crossing:
+    """The crossing of a line that has exactly two hits: from the first to the second, with their edges."""
     return _crossing("crossing_line", section, tol, line)
 
 
-def joined_crossing(section: Points, tol: float, line: Line) -> Line2:
+def joined_crossing(section: Points, tol: float, line: Line) -> Crossing:
     """The same with hits near each other counted as one."""
     return _crossing("joined_crossing", section, tol, line)
 
@@ -333,21 +357,20 @@ def joined_crossing(section: Points, tol: float, line: Line) -> Line2:
 # ---- one circle or two
 
 
-def _circle(name: str, section: Points, section_tol: float, tol: float, line: Line) -> Inscribed:
+def inscribed_from_crossing(section: Points, section_tol: float, tol: float, line: Line) -> Inscribed:
+    """The circle of a line that is a crossing."""
     p = _numbers(section)
     numbers = _Single()
-    _ask(name, p, len(p), section_tol, tol, *_line(line), numbers)
+    _ask("inscribed_from_crossing", p, len(p), section_tol, tol, *_line(line), numbers)
     return Inscribed(*numbers)
 
 
-def inscribed_from_crossing(section: Points, section_tol: float, tol: float, line: Line) -> Inscribed:
-    """The circle of a line that is a crossing."""
-    return _circle("inscribed_from_crossing", section, section_tol, tol, line)
-
-
-def try_inscribed(section: Points, section_tol: float, tol: float, line: Line) -> Inscribed:
-    """The circle on a line."""
-    return _circle("try_inscribed", section, section_tol, tol, line)
+def try_inscribed(section: Points, section_tol: float, tol: float, line: Line) -> CircleOnLine:
+    """The circle on a line, with the edges of the line's crossing."""
+    p = _numbers(section)
+    numbers, edges = _Single(), _Edges()
+    _ask("try_inscribed", p, len(p), section_tol, tol, *_line(line), numbers, edges)
+    return CircleOnLine(Inscribed(*numbers), (edges[0], edges[1]))
 
 
 def inscribed_refined(section: Points, section_tol: float, tol: float, a: Inscribed, b: Inscribed) -> Optional[Inscribed]:
@@ -365,9 +388,9 @@ def inscribed_refined(section: Points, section_tol: float, tol: float, a: Inscri
 _UNTOLD = 2**64 - 1
 
 
-def _run(name: str, store: Any, *args: Any) -> Run:
+def _run(name: str, store: Any, *args: Any, more: Sequence[Any] = ()) -> Run:
     count, units = ctypes.c_size_t(_UNTOLD), ctypes.c_uint32()
-    number = call(name, *args, count, units)
+    number = call(name, *args, count, units, *more)
     if count.value == _UNTOLD:
         raise Refused(number)
     return Run(number, _circles(store, count.value), units.value)
@@ -382,11 +405,13 @@ def refine_and_push(
     return _run("refine_and_push", store, p, len(p), section_tol, tol, store, len(store), len(circles), _stored([circle]), limit)
 
 
-def march(section: Points, section_tol: float, tol: float, line: Line, limit: int = NO_LIMIT, slots: int = SLOTS) -> Run:
-    """The circles on one side of a line."""
+def march(section: Points, section_tol: float, tol: float, line: Line, limit: int = NO_LIMIT, slots: int = SLOTS) -> March:
+    """The circles on one side of a line, and the edges of the line's crossing."""
     p = _numbers(section)
     store = _stored((), slots)
-    return _run("march", store, p, len(p), section_tol, tol, *_line(line), store, len(store), limit)
+    edges, found = _Edges(), ctypes.c_bool()
+    run = _run("march", store, p, len(p), section_tol, tol, *_line(line), store, len(store), limit, more=(edges, found))
+    return March(run.number, run.circles, run.units, (edges[0], edges[1]) if found.value else None)
 
 
 def extract_circles(section: Points, section_tol: float, tol: float, line: Line, limit: int = NO_LIMIT, slots: int = SLOTS) -> Run:

@@ -40,6 +40,7 @@ class Blade:
     curve: Optional[rt.Curve2] = None
     line: Optional[rt.Line2] = None
     line_given: bool = False
+    crossing: Optional[rt.Crossing] = None
     circles: Tuple[rt.Inscribed, ...] = ()
     units: int = 0
     turned: Optional[bool] = None
@@ -107,6 +108,8 @@ class _Steps:
         blade.line = middle_line(blade.curve) if o.line is None else rt.Line2(*o.line)
         run = rt.extract_circles(blade.curve, o.section_tol, o.tol, blade.line, o.limit, o.slots)
         blade.circles, blade.units = run.circles, run.units
+        if run.circles:
+            blade.crossing = rt.crossing_line(blade.curve, o.section_tol, blade.line)
         return run.number
 
     def orientation(self) -> int:

@@ -16,7 +16,7 @@ DETAIL_WIDE, DETAIL_HIGH = 450.0, 230.0
 TEXT, ROW = 17.0, 27.0
 
 SECTION, CIRCLE, TINT, THICKEST = "#222222", "#4488bb", "#e4eff8", "#ee7733"
-CAMBER, P0, P1, REFERENCE, EDGE = "#cc3311", "#009988", "#aa4499", "#888888", "#dd2277"
+CAMBER, P0, P1, REFERENCE, EDGE, HIT = "#cc3311", "#009988", "#aa4499", "#888888", "#dd2277", "#ccaa00"
 GOOD, BAD = "#117733", "#bb1111"
 
 Point = Tuple[float, float]
@@ -84,6 +84,11 @@ def _drawing(blade: Blade, page: _Page, wide: float, high: float, bold: float) -
         ux, uy = d.dx / far * reach, d.dy / far * reach
         if math.isfinite(ux) and math.isfinite(uy) and math.isfinite(reach):
             out.append(f'<path d="{page.path([(d.ox - ux, d.oy - uy), (d.ox + ux, d.oy + uy)])}" {_stroke(REFERENCE, 1.2 * bold, "6 4")}/>')
+    if blade.crossing is not None:
+        x = blade.crossing.line
+        for i, hit in zip(blade.crossing.edges, ((x.ox, x.oy), (x.ox + x.dx, x.oy + x.dy))):
+            at = page.at(hit)
+            out.append(f'<g><title>the reference line crosses edge {i}</title><path d="{page.path(points[i : i + 2])}" {_stroke(HIT, 4 * bold)} stroke-linecap="round"/>{_dot(at, 2.6 * bold, HIT)}</g>')
     if not blade.curve.is_closed:
         out.append(f'<path d="{page.path([points[0], points[-1]])}" {_stroke(EDGE, 1.6 * bold, "4 3")}/>')
     for ringed, colour in ((blade.thickest, THICKEST), (stop, BAD)):
@@ -117,6 +122,8 @@ def _legend(blade: Blade) -> List[Tuple[str, str]]:
     if blade.line is not None:
         d = blade.line
         rows.append((line(REFERENCE, "6 4"), f"reference line from ({d.ox:.3g}, {d.oy:.3g}) along ({d.dx:.3g}, {d.dy:.3g})"))
+    if blade.crossing is not None:
+        rows.append((f'<path d="M-16,0H16" {_stroke(HIT, 5)}/>', "the edges that it crosses, {} and {}".format(*blade.crossing.edges)))
     if blade.circles:
         rows.append((ring(CIRCLE, 1.2), f"{len(blade.circles)} inscribed circles, {blade.units} units"))
         rows.append((_dot((-7, 0), 3.5, P0) + _dot((7, 0), 3.5, P1), "their contacts, p0 and p1"))

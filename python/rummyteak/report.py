@@ -47,6 +47,8 @@ def table(name: str, blade: Blade) -> str:
     if blade.line is not None:
         d = blade.line
         rows.append(("reference line", f"from ({d.ox:.6g}, {d.oy:.6g}) along ({d.dx:.6g}, {d.dy:.6g})" + ("" if blade.line_given else ", across the middle of the longest chord")))
+    if blade.crossing is not None:
+        rows.append(("crosses", "edges {} and {}".format(*blade.crossing.edges)))
     rows.append(("circles", f"{len(blade.circles)}, {blade.units} units"))
     if blade.thickest is not None:
         c = blade.circles[blade.thickest]
@@ -105,6 +107,8 @@ def as_json(name: str, blade: Blade, options: Options) -> str:
         "points": list(blade.curve.numbers) if blade.curve else [],
         "closed": blade.curve.is_closed if blade.curve else None,
         "line": blade.line,
+        "crossing": blade.crossing.line if blade.crossing else None,
+        "edges": blade.crossing.edges if blade.crossing else None,
         "circle": Inscribed._fields,
         "circles": blade.circles,
         "units": blade.units,

@@ -8,17 +8,21 @@ use lib.Ieee.{Float, lt}
 use Rattle.errors.specs.Answer.{Answer, result, refusal, _>>=_}
 use Rattle.errors.specs.Lists.{lastOf}
 use Rattle.line2.specs.declared.Line2.{Line2}
+use Rattle.queries.specs.Crossing.{crossingOn}
 use Rattle.queries.specs.declared.Crossing.{Crossing}
+use Rattle.queries.specs.declared.HitEdges.{HitEdges}
 use Rattle.runs.specs.Run.{Move, ends, goes, pays, ended, Final, underLimit, never, whole}
 use Rattle.inscribed.specs.Store.{slots}
 use Rattle.inscribed.specs.declared.Inscribed.{Inscribed}
 use Rattle.halving.specs.Halving.{fromCrossing, inscribedOn}
 use Rattle.refine.specs.Machine.{State, refining, advancing, stopped, circlesIn, End, finished, refineMove, measure}
-use Rattle.refine.specs.Report.{Called, refusedOnEntry, ran, RunReport, reported}
+use Rattle.refine.specs.Report.{Called, refusedOnEntry, ran, RunReport, reported, listedRun}
 use Rattle.circles.specs.Asked.{lineEntry}
 use Rattle.advance.specs.Advance.{MarchAhead, done, advanceRay, lookAhead, stepOf, triedLine}
 use Rattle.errors.specs.declared.Refusal.{Refusal}
 use Rattle.errors.specs.declared.Refusal.the-variants.{NoAdvance}
+use Rattle.camber.specs.declared.march.StartEdges.{StartEdges}
+use Rattle.camber.specs.declared.march.MarchAnswer.{MarchAnswer}
 
 -- After a crossing was tried with fraction number k: its circle waits, the next fraction is due, or 13: "the advance finds no line".
 unfoldable pub afterCircle : List Inscribed → Answer Inscribed → State
@@ -85,6 +89,16 @@ unfolding afterStart
 marchAfter m full (refusal r) = refusedOnEntry r (m .store)
 marchAfter m full (result passed) = ran (afterStart m full (startOf m))
 
+-- ---- the edges that the start hits
+
+unfoldable pub foundEdges : Answer Crossing → Option HitEdges
+foundEdges (refusal r) = none
+foundEdges (result x) = some (x .edges)
+
+-- 02 (a): "so does a single march, refused or not, once its start's crossing is found"
+abbrev pub marchEdges : Marched → Option HitEdges
+marchEdges m = foundEdges (marchEntry m >>= λ passed. crossingOn (m .section) (m .line))
+
 -- under a limit, and the plain march without one
 abbrev pub marchOf : Marched → ℕ → Called (Unit {0})
 marchOf m limit = marchAfter m (underLimit limit) (marchEntry m)
@@ -99,3 +113,20 @@ marchedFrom m full (result c) = circlesIn (startedRun m full c .state)
 
 abbrev pub marchedCircles : Marched → (ℕ → Bool) → List Inscribed
 marchedCircles m full = marchedFrom m full (marchEntry m >>= λ passed. startOf m)
+
+-- ---- what a march tells: the run, and the edges of its start
+
+pub record MarchTold : Type 0 where
+  pub called : Called (Unit {0})
+  pub edges : Option HitEdges
+
+abbrev pub marchTold : Marched → ℕ → MarchTold
+marchTold m limit = record { called = marchOf m limit; edges = marchEdges m }
+
+abbrev pub listedEdges : StartEdges → Option HitEdges
+listedEdges (StartEdges.Found e) = some e
+listedEdges StartEdges.Nothing = none
+
+abbrev pub listedMarch : MarchAnswer → List Float → MarchTold
+listedMarch (MarchAnswer.Ran m) store = record { called = ran (listedRun (m .run) store); edges = listedEdges (m .edges) }
+listedMarch (MarchAnswer.Refused r) store = record { called = refusedOnEntry r store; edges = none }

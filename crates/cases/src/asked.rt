@@ -151,6 +151,7 @@ fn ask_line(
     stated: usize,
     store: &[f64],
     out: &mut [f64],
+    edges: &mut [usize; 2],
 ) -> u32 {
     let t = number_at(args, 0);
     let x = number_at(args, 2);
@@ -160,15 +161,21 @@ fn ask_line(
     let mut line = [0.0; 4];
     copy_from(&mut line, out, 0);
     let number = match kind {
-        20 => section::rummyteak_crossing_line(section, t, x, y, dx, dy, &mut line),
-        21 => section::rummyteak_joined_crossing(section, t, x, y, dx, dy, &mut line),
+        20 => section::rummyteak_crossing_line(section, t, x, y, dx, dy, &mut line, edges),
+        21 => section::rummyteak_joined_crossing(section, t, x, y, dx, dy, &mut line, edges),
         _ => list::rummyteak_end_clip_line(store, stated, &mut line),
     };
     put_line(out, &line);
     number
 }
 
-fn ask_circle(kind: u64, section: &[f64], args: &[f64], out: &mut [f64]) -> u32 {
+fn ask_circle(
+    kind: u64,
+    section: &[f64],
+    args: &[f64],
+    out: &mut [f64],
+    edges: &mut [usize; 2],
+) -> u32 {
     let t = number_at(args, 0);
     let g = number_at(args, 1);
     let x = number_at(args, 2);
@@ -181,7 +188,7 @@ fn ask_circle(kind: u64, section: &[f64], args: &[f64], out: &mut [f64]) -> u32 
     let mut added = true;
     let number = match kind {
         23 => circle::rummyteak_inscribed_from_crossing(section, t, g, x, y, dx, dy, &mut c),
-        24 => circle::rummyteak_try_inscribed(section, t, g, x, y, dx, dy, &mut c),
+        24 => circle::rummyteak_try_inscribed(section, t, g, x, y, dx, dy, &mut c, edges),
         _ => circle::rummyteak_inscribed_refined(section, t, g, &a, &b, &mut c, &mut added),
     };
     put_circle(out, 0, &c);
@@ -197,6 +204,8 @@ fn ask_run(
     store: &mut [f64],
     count: &mut usize,
     units: &mut u32,
+    edges: &mut [usize; 2],
+    found: &mut bool,
 ) -> u32 {
     let t = number_at(args, 0);
     let g = number_at(args, 1);
@@ -207,7 +216,21 @@ fn ask_run(
     let c = circle_from(args, 2);
     match kind {
         26 => run::rummyteak_refine_and_push(section, t, g, store, stated, &c, limit, count, units),
-        27 => run::rummyteak_march(section, t, g, x, y, dx, dy, store, limit, count, units),
+        27 => run::rummyteak_march(
+            section,
+            t,
+            g,
+            x,
+            y,
+            dx,
+            dy,
+            store,
+            limit,
+            count,
+            units,
+            edges,
+            found,
+        ),
         _ => run::rummyteak_extract_circles(
             section,
             t,
@@ -269,15 +292,27 @@ fn number_of(
     count: &mut usize,
     units: &mut u32,
     yes: &mut bool,
+    edges: &mut [usize; 2],
 ) -> u32 {
     match kind {
         0..=3 => ask_curve(kind, section, args, place, how, store, out, count, yes),
         4..=10 => ask_yes(kind, section, args, place, how, store, yes),
         11..=14 => ask_number(kind, section, args, place, store, out),
         15..=19 => ask_station(kind, section, args, place, out, count),
-        20..=22 => ask_line(kind, section, args, place, store, out),
-        23..=25 => ask_circle(kind, section, args, out),
-        26..=28 => ask_run(kind, section, args, place, limit, store, count, units),
+        20..=22 => ask_line(kind, section, args, place, store, out, edges),
+        23..=25 => ask_circle(kind, section, args, out, edges),
+        26..=28 => ask_run(
+            kind,
+            section,
+            args,
+            place,
+            limit,
+            store,
+            count,
+            units,
+            edges,
+            yes,
+        ),
         29 => ask_fit(
             section,
             args,
@@ -301,7 +336,23 @@ fn word_of(yes: bool) -> u64 {
     0
 }
 
-// Behind the number come the count and whether a curve is closed, a yes or no alone, or a count, an edge, a place or a root, and the units.
+// Tells whether there are edges, and which.
+fn tell_edges(told: &mut [u64], found: bool, edges: &[usize; 2]) {
+    tell(told, 3, word_of(found));
+    tell(told, 4, edges[0] as u64);
+    tell(told, 5, edges[1] as u64);
+}
+
+// Whether the function of a kind has told edges: both crossings and the circle on a line have where there is a result, a march where it says so.
+fn has_edges(kind: u64, number: u32, found: bool) -> bool {
+    match kind {
+        20 | 21 | 24 => number == 0,
+        27 => found,
+        _ => false,
+    }
+}
+
+// Behind the number come the count and whether a curve is closed, a yes or no alone, or a count, an edge, a place or a root, and the units; then the edges.
 pub(crate) fn ask(
     kind: u64,
     section: &[f64],
@@ -316,6 +367,7 @@ pub(crate) fn ask(
     let mut count = word_at(told, 1) as usize;
     let mut units = (word_at(told, 2) % 0x1_0000_0000) as u32;
     let mut yes = false;
+    let mut edges = [0; 2];
     let number = number_of(
         kind,
         section,
@@ -328,8 +380,10 @@ pub(crate) fn ask(
         &mut count,
         &mut units,
         &mut yes,
+        &mut edges,
     );
     tell(told, 0, number as u64);
+    tell_edges(told, has_edges(kind, number, yes), &edges);
     match kind {
         0..=3 => {
             tell(told, 1, count as u64);

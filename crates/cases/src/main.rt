@@ -86,7 +86,7 @@ fn lines(text: &[u8], n: &mut [f64], words: &mut [u64]) -> u32 {
 fn main() {
     let mut text = [0; 131072];
     let mut n = [0.0; script::ALL as usize];
-    let mut words = [0; 9];
+    let mut words = [0; script::WORDS];
     let len = io::read_full(0, &mut text);
     verdict(lines(&text[0..len], &mut n, &mut words));
 }

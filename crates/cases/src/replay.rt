@@ -45,9 +45,9 @@ fn ask_kind(kind: u64, place: usize, how: u64, limit: u32, n: &mut [f64], words:
     buffers::copy_from(&mut args, n, script::ARGS);
     buffers::copy_from(&mut out, n, script::OUT);
     buffers::copy_from(&mut store, n, script::STORE);
-    let s = script::size_at(words, 6, 8194);
-    let t = script::size_at(words, 7, SIZE as usize);
-    let o = script::size_at(words, 8, ROOM as usize);
+    let s = script::size_at(words, script::SECTION_SIZE, 8194);
+    let t = script::size_at(words, script::STORE_SIZE, SIZE as usize);
+    let o = script::size_at(words, script::OUT_SIZE, ROOM as usize);
     asked::ask(
         kind,
         &section[0..s],
@@ -72,6 +72,9 @@ fn ask(line: &[u8], k: u32, limit: u32, n: &mut [f64], words: &mut [u64]) {
     tell(words, 0, 0);
     tell(words, 1, 0);
     tell(words, 2, 0);
+    tell(words, 3, 0);
+    tell(words, 4, 0);
+    tell(words, 5, 0);
     ask_kind(kind, place, how, limit, n, words);
 }
 

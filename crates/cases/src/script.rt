@@ -2,7 +2,7 @@
 //
 // All numbers stand in one slice: the arguments at its start with the marks that fill output and store behind them, the section from SECTION on, the
 // output from OUT on, the store from STORE on, from KEPT on an output and a store as they were kept, and from PLAIN on what a run without a limit left. Of the
-// words, the first three were told, the next three were told by a run without a limit, and then come the sizes of section, store and output.
+// words, the first TOLD were told, as many behind them were told by a run without a limit, and then come the sizes of section, store and output.
 use crate::buffers;
 use crate::cells::number_at;
 use crate::cells::put;
@@ -48,6 +48,18 @@ pub(crate) const ALL: u32 = PLAIN + BOTH;
 
 pub(crate) const NO_LIMIT: u32 = 4_294_967_295;
 
+// How many words are told.
+pub(crate) const TOLD: usize = 6;
+
+pub(crate) const SECTION_SIZE: usize = 2 * TOLD;
+
+pub(crate) const STORE_SIZE: usize = SECTION_SIZE + 1;
+
+pub(crate) const OUT_SIZE: usize = STORE_SIZE + 1;
+
+// How many words there are in all.
+pub(crate) const WORDS: usize = OUT_SIZE + 1;
+
 // A size among the words, at most `most`.
 pub(crate) fn size_at(words: &[u64], i: usize, most: usize) -> usize
     ensures { λ r. ⌜ r ≤ most ⌝ }
@@ -71,21 +83,21 @@ fn set_output(line: &[u8], i: u32, count: u32, mark: usize, n: &mut [f64]) {
 pub(crate) fn sets(op: u64, line: &[u8], n: &mut [f64], words: &mut [u64]) {
     let size = whole(word(line, 1));
     match op {
-        0 => tell(words, 6, buffers::write(n, SECTION, line, 1)),
+        0 => tell(words, SECTION_SIZE, buffers::write(n, SECTION, line, 1)),
         1 => {
             buffers::row(n, SECTION, (size % 8195) as u32);
-            tell(words, 6, size);
+            tell(words, SECTION_SIZE, size);
         }
         2 => {
             buffers::write(n, ARGS, line, 1);
         }
         3 => {
             set_output(line, STORE, SIZE, STORE_MARK, n);
-            tell(words, 7, size);
+            tell(words, STORE_SIZE, size);
         }
         4 => {
             set_output(line, OUT, ROOM, OUT_MARK, n);
-            tell(words, 8, size);
+            tell(words, OUT_SIZE, size);
         }
         _ => buffers::rank(n, STORE, (size % (SLOTS as u64 + 1)) as u32),
     }
@@ -114,17 +126,30 @@ pub(crate) fn is_kept(n: &[f64]) -> bool {
     buffers::is_same(n, OUT, KEPT, BOTH)
 }
 
-// Whether the words told are those of a line, 0 where it has no more.
+// Whether word k of those told is that of a line, 0 where it has no more.
+fn is_told(line: &[u8], words: &[u64], k: u32) -> bool {
+    let i = k as usize;
+    word_at(words, i) == whole(word(line, i + 1))
+}
+
+// Whether the words told are those of a line.
 fn told_is(line: &[u8], words: &[u64]) -> bool {
-    let right0 = word_at(words, 0) == whole(word(line, 1));
-    let right1 = word_at(words, 1) == whole(word(line, 2));
-    let right2 = word_at(words, 2) == whole(word(line, 3));
-    if right0 {
-        if right1 {
-            return right2;
-        }
+    if !is_told(line, words, 0) {
+        return false;
     }
-    false
+    if !is_told(line, words, 1) {
+        return false;
+    }
+    if !is_told(line, words, 2) {
+        return false;
+    }
+    if !is_told(line, words, 3) {
+        return false;
+    }
+    if !is_told(line, words, 4) {
+        return false;
+    }
+    is_told(line, words, 5)
 }
 
 // Word k of a line as a place in a store.

@@ -4,18 +4,32 @@ pub mod checked;
 use curve2::AlsoBad;
 use curve2::Entry;
 use curve2::entering;
+use errors::Refusal;
 use halving::TriedAnswer;
 use inscribed::Inscribed;
 use inscribed::InscribedAnswer;
 use line2::Line2;
-use queries::Crossing;
+use queries::CrossingAsked;
+use queries::HitEdges;
 ghost use mathlib.Core.Path.{_≡_};
 ghost use mathlib.Core.Bool.{_||_};
 ghost use Rattle.curve2.specs.Entry.{listedEntry};
 ghost use Rattle.inscribed.specs.Circles.{listedInscribed};
 ghost use Rattle.inscribed.specs.Store.{badCircle};
 ghost use Rattle.halving.specs.Halving.{listedTried};
-ghost use Rattle.circles.specs.Asked.{circleEntry, lineEntry, fromCrossingAsked, tryAsked, trialAsked};
+ghost use Rattle.circles.specs.Asked.{circleEntry, lineEntry, fromCrossingAsked, tryAsked, listedCircleOnLine, trialAsked};
+
+// The circle on a line, and the edges of the line's crossing.
+pub struct CircleOnLine {
+    pub circle: Inscribed,
+    pub edges: HitEdges,
+}
+
+// The circle on a line, or why there is none.
+pub enum CircleOnLineAnswer {
+    Value(CircleOnLine),
+    Refused(Refusal),
+}
 
 // The entry tests, with whether a number of the other arguments is bad.
 fn entered(section: &[f64], section_tol: f64, tol: f64, number: bool) -> Entry
@@ -58,21 +72,31 @@ pub fn inscribed_from_crossing(
     ensures { λ r. ⌜ listedInscribed r ≡ fromCrossingAsked (now (section .entry)) «section_tol» tol line ⌝ }
 {
     match line_entry(section, section_tol, tol, line) {
-        Entry::Passed => {
-            let crossing = Crossing { line };
-            halving::checked::from_crossing(section, tol, crossing)
-        }
+        Entry::Passed => halving::checked::from_line(section, tol, line),
         Entry::Refused(r) => InscribedAnswer::Refused(r),
     }
 }
 
-// The circle on a line: 8 where the line has not exactly two hits.
-pub fn try_inscribed(section: &[f64], section_tol: f64, tol: f64, line: Line2) -> InscribedAnswer
-    ensures { λ r. ⌜ listedInscribed r ≡ tryAsked (now (section .entry)) «section_tol» tol line ⌝ }
+// The circle on a line, with the edges of the line's crossing: 8 where the line has not exactly two hits.
+pub fn try_inscribed(section: &[f64], section_tol: f64, tol: f64, line: Line2) -> CircleOnLineAnswer
+    ensures { λ r. ⌜ listedCircleOnLine r ≡ tryAsked (now (section .entry)) «section_tol» tol line ⌝ }
 {
     match line_entry(section, section_tol, tol, line) {
-        Entry::Passed => halving::checked::inscribed_on(section, tol, line),
-        Entry::Refused(r) => InscribedAnswer::Refused(r),
+        Entry::Passed => {
+            match queries::asked(queries::checked::crossing_line(section, line)) {
+                CrossingAsked::Value(x) => {
+                    let edges = x.edges;
+                    match halving::checked::from_crossing(section, tol, x) {
+                        InscribedAnswer::Value(circle) => {
+                            CircleOnLineAnswer::Value(CircleOnLine { circle, edges })
+                        }
+                        InscribedAnswer::Refused(r) => CircleOnLineAnswer::Refused(r),
+                    }
+                }
+                CrossingAsked::Refused(r) => CircleOnLineAnswer::Refused(r),
+            }
+        }
+        Entry::Refused(r) => CircleOnLineAnswer::Refused(r),
     }
 }
 

@@ -16,8 +16,8 @@ use Rattle.inscribed.specs.Circles.{inscribed}
 use Rattle.inscribed.specs.declared.Inscribed.{Inscribed}
 use Rattle.halving.specs.declared.bisection.InscribedEnd.{InscribedEnd}
 use Rattle.queries.specs.declared.Crossing.{Crossing}
-use Rattle.errors.specs.declared.Refusal.the-variants.{TooLong, NoCrossing}
-use Rattle.queries.specs.Crossing.{crossingOf}
+use Rattle.errors.specs.declared.Refusal.the-variants.{TooLong}
+use Rattle.queries.specs.Crossing.{crossingOf, crossingOn}
 use Rattle.halving.specs.declared.TriedAnswer.{TriedAnswer}
 
 abbrev pub searchEnd : Float → Float → Point2 → InscribedEnd
@@ -107,14 +107,9 @@ unfoldable pub tryInscribed : List Float → Float → Line2 → Answer (Option 
 unfolding circleOn
 tryInscribed ns tol l = crossingOf ns l >>= circleOn ns tol
 
--- 8: "a line asked for directly .. has not exactly two hits"
-abbrev pub orNoCircle : Option Inscribed → Answer Inscribed
-orNoCircle none = refusal NoCrossing
-orNoCircle (some c) = result c
-
 -- the circle on a line that must have a crossing (8): its halving may be 10 or 12
 unfoldable pub inscribedOn : List Float → Float → Line2 → Answer Inscribed
-inscribedOn ns tol l = tryInscribed ns tol l >>= orNoCircle
+inscribedOn ns tol l = crossingOn ns l >>= fromCrossing ns tol
 
 -- what it lists: a circle, none, or the number of its refusal
 abbrev pub listedTried : TriedAnswer → Answer (Option Inscribed)

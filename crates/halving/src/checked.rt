@@ -9,6 +9,7 @@ use line2::Line2;
 use points::PointAnswer;
 use queries::Crossing;
 use queries::CrossingAnswer;
+use queries::CrossingAsked;
 ghost use mathlib.Core.Path.{_≡_};
 ghost use Rattle.curve2.specs.Entry.{HasPoints};
 ghost use Rattle.inscribed.specs.Circles.{listedInscribed};
@@ -44,7 +45,7 @@ fn halved_from(section: &[f64], line: Line2, resolve: f64, len: f64) -> Inscribe
 }
 
 // The circle on a line from one side of the section to the other: 10 where the line is too long for the tolerance.
-fn from_line(section: &[f64], tol: f64, line: Line2) -> InscribedAnswer
+pub fn from_line(section: &[f64], tol: f64, line: Line2) -> InscribedAnswer
     requires { ⌜ HasPoints (now section) ⌝ }
     ensures { λ r. ⌜ listedInscribed r ≡ fromLine (now (section .entry)) tol line ⌝ }
 {
@@ -90,9 +91,8 @@ pub fn inscribed_on(section: &[f64], tol: f64, line: Line2) -> InscribedAnswer
     requires { ⌜ HasPoints (now section) ⌝ }
     ensures { λ r. ⌜ listedInscribed r ≡ inscribedOn (now (section .entry)) tol line ⌝ }
 {
-    match try_inscribed(section, tol, line) {
-        TriedAnswer::Value(c) => InscribedAnswer::Value(c),
-        TriedAnswer::Nothing => InscribedAnswer::Refused(Refusal::NoCrossing),
-        TriedAnswer::Refused(r) => InscribedAnswer::Refused(r),
+    match queries::asked(queries::checked::crossing_line(section, line)) {
+        CrossingAsked::Value(x) => from_crossing(section, tol, x),
+        CrossingAsked::Refused(r) => InscribedAnswer::Refused(r),
     }
 }

@@ -9,10 +9,14 @@ use borrow.Author.Tests.{ne-eqb}
 use lib.ListN.{length}
 use lib.Ieee.{Float, lt}
 use Rattle.errors.specs.Answer.{Answer, result, refusal, _>>=_}
+use Rattle.points.specs.declared.Point2.{Point2}
+use Rattle.line2.specs.Lines.{lineThrough, atParam}
 use Rattle.line2.specs.declared.Line2.{Line2}
-use Rattle.queries.specs.Hits.{Edge, sectionEdges, Hit, hit, edgeHit, joinedTo, hitsFrom, inserted, sortedInto, sorted, nearbyOnEdge, droppedAfter, dropped}
+use Rattle.queries.specs.Hits.{Edge, sectionEdges, hit, edgeHit, joinedTo, hitsFrom, inserted, sortedInto, sorted, nearbyOnEdge, droppedAfter, dropped}
 use Rattle.queries.specs.Code.{seenOf, seenHits}
-use Rattle.queries.specs.Crossing.{Span, spanOf, crossed, crossingWith, crossingOf}
+use Rattle.queries.specs.declared.Hit.{Hit}
+use Rattle.queries.specs.Crossing.{Span, span, spanEdges, spanOf, spanned, crossed, crossingWith, crossingOf, orNoCrossing, crossingOn}
+use Rattle.queries.specs.declared.Crossing.{Crossing}
 use Rattle.queries.specs.declared.hits.Seen.{Seen}
 
 -- ---- edges of hits: below k, from k on and rising, and none twice
@@ -137,8 +141,8 @@ no-span (g ∷ (f ∷ (k ∷ hs))) h = refl
 -- the span of what one pass has seen
 abbrev pub spanSeen : Seen → Option Span
 spanSeen Seen.Nothing = none
-spanSeen (Seen.One s) = none
-spanSeen (Seen.Pair s t) = some (cond (lt t s) (record { t0 = t; t1 = s }) (record { t0 = s; t1 = t }))
+spanSeen (Seen.One g) = none
+spanSeen (Seen.Pair g h) = some (cond (lt (h .t) (g .t)) (span h g) (span g h))
 spanSeen Seen.Many = none
 
 span-sorted : (hs : List Hit) → spanOf (sorted hs) ≡ spanSeen (seenOf hs)
@@ -147,7 +151,7 @@ span-sorted [] = refl
 span-sorted (g ∷ []) = refl
 span-sorted (g ∷ (h ∷ [])) = go (lt (h .t) (g .t))
   where
-    go : (b : Bool) → spanOf (cond b (h ∷ (g ∷ [])) (g ∷ (h ∷ []))) ≡ some (cond b (record { t0 = h .t; t1 = g .t }) (record { t0 = g .t; t1 = h .t }))
+    go : (b : Bool) → spanOf (cond b (h ∷ (g ∷ [])) (g ∷ (h ∷ []))) ≡ some (cond b (span h g) (span g h))
     go true = refl
     go false = refl
 span-sorted (g ∷ (h ∷ (k ∷ hs))) = no-span (sorted (g ∷ (h ∷ (k ∷ hs)))) (omega (arith, length-sorted [] (g ∷ (h ∷ (k ∷ hs)))))
@@ -160,3 +164,104 @@ crossing-seen ns l = go (hitsFrom l 0 (sectionEdges ns)) (hits-rise l 0 (section
         → ((a >>= λ hs. result (seenOf hs)) >>= λ s. crossed l (spanSeen s)) ≡ (a >>= λ hs. crossed l (spanOf (dropped nearbyOnEdge (sorted hs))))
     go (refusal n) r = refl
     go (result hs) r = rw (none-dropped (sorted hs) (distinct-sorted 0 [] hs tt tt (r hs refl)), span-sorted hs)
+
+-- ---- the edges of a crossing are below the count of edges, and of a plain crossing they differ
+
+hits-below : (l : Line2) (k : ℕ) (es : List Edge) (hs : List Hit) → hitsFrom l k es ≡ result hs → Below (k + length es) hs
+unfolding hitsFrom
+hits-below l k [] hs e = rw (same e) tt
+  where
+    same : {a b : List Hit} → result a ≡ result b → b ≡ a
+    same p = cc
+hits-below l k (e ∷ es) hs p = go (edgeHit l e) (hitsFrom l (suc k) es) (hits-below l (suc k) es) p
+  where
+    more : (gs : List Hit) → Below (suc k + length es) gs → Below (k + suc (length es)) gs
+    more gs b = below-more (suc k + length es) (k + suc (length es)) gs (omega arith) b
+
+    go : (a : Answer (Option Float)) (b : Answer (List Hit)) → ((gs : List Hit) → b ≡ result gs → Below (suc k + length es) gs) → (a >>= λ t. b >>= λ gs. result (joinedTo k t gs)) ≡ result hs → Below (k + suc (length es)) hs
+    go (refusal n) b ih q = let z : _≡_ {A = ℕ} 0 1 = cc in absurd (omega arith)
+    go (result t) (refusal n) ih q = let z : _≡_ {A = ℕ} 0 1 = cc in absurd (omega arith)
+    go (result none) (result gs) ih q = let e : hs ≡ gs = cc in rw e (more gs (ih gs refl))
+    go (result (some t)) (result gs) ih q = let e : hs ≡ hit t k ∷ gs = cc in rw e (omega arith, more gs (ih gs refl))
+
+below-sorted : (k : ℕ) (gs hs : List Hit) → Below k gs → Below k hs → Below k (sortedInto gs hs)
+unfolding sortedInto
+below-sorted k gs [] b c = b
+below-sorted k gs (h ∷ hs) b c = below-sorted k (inserted h gs) hs (below-inserted k h gs (c .0) b) (c .1)
+
+below-dropped-after : (near : Hit → Hit → Bool) (k : ℕ) (g : Hit) (hs : List Hit) → Below k hs → Below k (droppedAfter near g hs)
+unfolding droppedAfter
+below-dropped-after near k g [] b = tt
+below-dropped-after near k g (h ∷ hs) b = go (near g h) (below-dropped-after near k g hs (b .1)) (below-dropped-after near k h hs (b .1))
+  where
+    go : (t : Bool) → Below k (droppedAfter near g hs) → Below k (droppedAfter near h hs) → Below k (cond t (droppedAfter near g hs) (h ∷ droppedAfter near h hs))
+    go true i j = i
+    go false i j = (b .0, j)
+
+below-dropped : (near : Hit → Hit → Bool) (k : ℕ) (hs : List Hit) → Below k hs → Below k (dropped near hs)
+unfolding dropped
+below-dropped near k [] b = tt
+below-dropped near k (h ∷ hs) b = (b .0, below-dropped-after near k h hs (b .1))
+
+span-below : (k : ℕ) (hs : List Hit) (s : Span) → Below k hs → spanOf hs ≡ some s → (s .first .edge < k) × (s .second .edge < k)
+unfolding spanOf
+span-below k [] s b e = let z : _≡_ {A = ℕ} 0 1 = cc in absurd (omega arith)
+span-below k (g ∷ []) s b e = let z : _≡_ {A = ℕ} 0 1 = cc in absurd (omega arith)
+span-below k (g ∷ (h ∷ [])) s b e = let w : s ≡ span g h = cc in rw w (b .0, b .1 .0)
+span-below k (g ∷ (h ∷ (f ∷ hs))) s b e = let z : _≡_ {A = ℕ} 0 1 = cc in absurd (omega arith)
+
+span-differs : (hs : List Hit) (s : Span) → Distinct hs → spanOf hs ≡ some s → s .first .edge ≡ s .second .edge → ⊥
+unfolding spanOf
+span-differs [] s d e q = let z : _≡_ {A = ℕ} 0 1 = cc in absurd (omega arith)
+span-differs (g ∷ []) s d e q = let z : _≡_ {A = ℕ} 0 1 = cc in absurd (omega arith)
+span-differs (g ∷ (h ∷ [])) s d e q = let w : s ≡ span g h = cc in d .0 .0 (rw w at q)
+span-differs (g ∷ (h ∷ (f ∷ hs))) s d e q = let z : _≡_ {A = ℕ} 0 1 = cc in absurd (omega arith)
+
+-- a crossing has the edges of its two hits
+module _ (l : Line2) (x : Crossing) where
+  crossed-edges : (o : Option Span) → crossed l o ≡ result (some x) → (s : Span) × (o ≡ some s) × (x .edges ≡ spanEdges s)
+  unfolding crossed spanned
+  crossed-edges none e = let z : _≡_ {A = ℕ} 0 1 = cc in absurd (omega arith)
+  crossed-edges (some s) e = (s, refl, through (atParam l (s .first .t)) (atParam l (s .second .t)) e)
+    where
+      last : (c : Answer Line2) → ((c >>= λ k. result (record { line = k; edges = spanEdges s })) >>= λ y. result (some y)) ≡ result (some x) → x .edges ≡ spanEdges s
+      last (refusal r) p = let z : _≡_ {A = ℕ} 0 1 = cc in absurd (omega arith)
+      last (result k) p = let w : x ≡ record { line = k; edges = spanEdges s } = cc in rw w
+
+      through : (a b : Answer Point2) → ((a >>= λ p. b >>= λ q. lineThrough p q >>= λ k. result (record { line = k; edges = spanEdges s })) >>= λ y. result (some y)) ≡ result (some x) → x .edges ≡ spanEdges s
+      through (refusal r) b p = let z : _≡_ {A = ℕ} 0 1 = cc in absurd (omega arith)
+      through (result q) (refusal r) p = let z : _≡_ {A = ℕ} 0 1 = cc in absurd (omega arith)
+      through (result q) (result r) p = last (lineThrough q r) p
+
+-- "both numbers are below the count of edges", of the plain crossing and of the joined one
+pub crossing-edges-below : (near : Hit → Hit → Bool) (ns : List Float) (l : Line2) (x : Crossing) → crossingWith near ns l ≡ result (some x)
+    → (x .edges .first < length (sectionEdges ns)) × (x .edges .second < length (sectionEdges ns))
+unfolding crossingWith
+crossing-edges-below near ns l x e = go (hitsFrom l 0 (sectionEdges ns)) (λ hs q. below-more _ (length (sectionEdges ns)) hs (omega arith) (hits-below l 0 (sectionEdges ns) hs q)) e
+  where
+    go : (a : Answer (List Hit)) → ((hs : List Hit) → a ≡ result hs → Below (length (sectionEdges ns)) hs) → (a >>= λ hs. crossed l (spanOf (dropped near (sorted hs)))) ≡ result (some x)
+        → (x .edges .first < length (sectionEdges ns)) × (x .edges .second < length (sectionEdges ns))
+    go (refusal r) b p = let z : _≡_ {A = ℕ} 0 1 = cc in absurd (omega arith)
+    go (result hs) b p =
+        let found = crossed-edges l x (spanOf (dropped near (sorted hs))) p in
+        rw (found .2) (span-below _ (dropped near (sorted hs)) (found .0) (below-dropped near _ (sorted hs) (below-sorted _ [] hs tt (b hs refl))) (found .1))
+
+pub crossing-edges-differ : (ns : List Float) (l : Line2) (x : Crossing) → crossingOf ns l ≡ result (some x) → x .edges .first ≡ x .edges .second → ⊥
+unfolding crossingWith
+crossing-edges-differ ns l x e = go (hitsFrom l 0 (sectionEdges ns)) (hits-rise l 0 (sectionEdges ns)) e
+  where
+    go : (a : Answer (List Hit)) → ((hs : List Hit) → a ≡ result hs → Rising 0 hs) → (a >>= λ hs. crossed l (spanOf (dropped nearbyOnEdge (sorted hs)))) ≡ result (some x) → x .edges .first ≡ x .edges .second → ⊥
+    go (refusal r) h p q = let z : _≡_ {A = ℕ} 0 1 = cc in absurd (omega arith)
+    go (result hs) h p q =
+        let apart = distinct-sorted 0 [] hs tt tt (h hs refl) in
+        let found = crossed-edges l x (spanOf (sorted hs)) (rw (none-dropped (sorted hs) apart) at p) in
+        span-differs (sorted hs) (found .0) apart (found .1) (rw (found .2) at q)
+
+-- a line that must cross has the crossing that it has
+pub crossing-there : (ns : List Float) (l : Line2) (x : Crossing) → crossingOn ns l ≡ result x → crossingOf ns l ≡ result (some x)
+crossing-there ns l x e = go (crossingOf ns l) e
+  where
+    go : (a : Answer (Option Crossing)) → (a >>= orNoCrossing) ≡ result x → a ≡ result (some x)
+    go (refusal r) p = let z : _≡_ {A = ℕ} 0 1 = cc in absurd (omega arith)
+    go (result none) p = let z : _≡_ {A = ℕ} 0 1 = cc in absurd (omega arith)
+    go (result (some y)) p = let w : y ≡ x = cc in rw w

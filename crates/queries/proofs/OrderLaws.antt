@@ -9,8 +9,9 @@ use native.Mathlib.Omega.{arith}
 use borrow.Author.Tests.{ltb-true, lt-ltb, le-ltb}
 use lib.Ieee.{Float, nan, inf, fin, below, down, lt, up}
 use lib.Ieee.Fits.{down-pos}
-use Rattle.queries.specs.Hits.{Hit, inserted, sortedInto, sorted, droppedAfter, dropped}
-use Rattle.queries.specs.Crossing.{Span, spanOf}
+use Rattle.queries.specs.Hits.{inserted, sortedInto, sorted, droppedAfter, dropped}
+use Rattle.queries.specs.declared.Hit.{Hit}
+use Rattle.queries.specs.Crossing.{Span, span, spanOf}
 
 -- ---- "below" among numbers: transitive, and no number is below itself
 
@@ -122,17 +123,17 @@ not-below-dropped near k g (h ∷ hs) n = go (not-below-dropped near k g hs (n .
     go i j true = i
     go i j false = (n .0, j)
 
-first-of-two : (h : Hit) (ds : List Hit) (s : Span) → NotBelow h ds → spanOf (h ∷ ds) ≡ some s → lt (s .t1) (s .t0) ≡ false
+first-of-two : (h : Hit) (ds : List Hit) (s : Span) → NotBelow h ds → spanOf (h ∷ ds) ≡ some s → lt (s .second .t) (s .first .t) ≡ false
 unfolding spanOf
 first-of-two h [] s n e = let w : _≡_ {A = ℕ} 0 1 = cc in absurd (omega arith)
-first-of-two h (k ∷ []) s n e = let w : s ≡ record { t0 = h .t; t1 = k .t } = cc in rw w (n .0)
+first-of-two h (k ∷ []) s n e = let w : s ≡ span h k = cc in rw w (n .0)
 first-of-two h (k ∷ (l ∷ ds)) s n e = let w : _≡_ {A = ℕ} 0 1 = cc in absurd (omega arith)
 
 -- the two that remain, whichever hits count as near: the second is not below the first
-pub span-in-order : (near : Hit → Hit → Bool) (hs : List Hit) (s : Span) → spanOf (dropped near (sorted hs)) ≡ some s → lt (s .t1) (s .t0) ≡ false
+pub span-in-order : (near : Hit → Hit → Bool) (hs : List Hit) (s : Span) → spanOf (dropped near (sorted hs)) ≡ some s → lt (s .second .t) (s .first .t) ≡ false
 unfolding dropped spanOf
 span-in-order near hs s e = go (sorted hs) (ordered-sorted [] hs tt) e
   where
-    go : (gs : List Hit) → Ordered gs → spanOf (dropped near gs) ≡ some s → lt (s .t1) (s .t0) ≡ false
+    go : (gs : List Hit) → Ordered gs → spanOf (dropped near gs) ≡ some s → lt (s .second .t) (s .first .t) ≡ false
     go [] o f = let w : _≡_ {A = ℕ} 0 1 = cc in absurd (omega arith)
     go (g ∷ gs) o f = first-of-two g (droppedAfter near g gs) s (not-below-dropped near g g gs (o .0)) f

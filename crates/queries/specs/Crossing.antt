@@ -6,26 +6,36 @@ use lib.Ieee.{Float}
 use Rattle.errors.specs.Answer.{Answer, result, refusal, _>>=_}
 use Rattle.line2.specs.Lines.{lineThrough, atParam}
 use Rattle.line2.specs.declared.Line2.{Line2}
-use Rattle.queries.specs.Hits.{Hit, hitsOf, sorted, dropped, nearby, nearbyOnEdge}
+use Rattle.queries.specs.Hits.{hitsOf, sorted, dropped, nearby, nearbyOnEdge}
+use Rattle.queries.specs.declared.Hit.{Hit}
+use Rattle.queries.specs.declared.HitEdges.{HitEdges}
 use Rattle.queries.specs.declared.Crossing.{Crossing}
 use Rattle.queries.specs.declared.CrossingAnswer.{CrossingAnswer}
+use Rattle.queries.specs.declared.CrossingAsked.{CrossingAsked}
 use Rattle.errors.specs.declared.Refusal.the-variants.{NoCrossing}
 
--- the fractions of the two hits
+-- the two hits
 pub record Span : Type 0 where
-  pub t0 : Float
-  pub t1 : Float
+  pub first : Hit
+  pub second : Hit
+
+abbrev pub span : Hit → Hit → Span
+span g h = record { first = g; second = h }
+
+-- 02 (a): "the two edge numbers, in the order of its two points"
+abbrev pub spanEdges : Span → HitEdges
+spanEdges s = record { first = s .first .edge; second = s .second .edge }
 
 -- exactly two
 unfoldable pub spanOf : List Hit → Option Span
 spanOf [] = none
 spanOf (g ∷ []) = none
-spanOf (g ∷ (h ∷ [])) = some (record { t0 = g .t; t1 = h .t })
+spanOf (g ∷ (h ∷ [])) = some (span g h)
 spanOf (g ∷ (h ∷ (k ∷ hs))) = none
 
 -- the line from the first hit to the second
 unfoldable pub spanned : Line2 → Span → Answer Crossing
-spanned l s = atParam l (s .t0) >>= λ a. atParam l (s .t1) >>= λ b. lineThrough a b >>= λ k. result (record { line = k })
+spanned l s = atParam l (s .first .t) >>= λ a. atParam l (s .second .t) >>= λ b. lineThrough a b >>= λ k. result (record { line = k; edges = spanEdges s })
 
 unfoldable pub crossed : Line2 → Option Span → Answer (Option Crossing)
 unfolding spanned
@@ -48,7 +58,17 @@ abbrev pub orNoCrossing : Option Crossing → Answer Crossing
 orNoCrossing none = refusal NoCrossing
 orNoCrossing (some c) = result c
 
+-- the crossing of a line that must have one
+abbrev pub crossingOn : List Float → Line2 → Answer Crossing
+crossingOn ns l = crossingOf ns l >>= orNoCrossing
+
+-- ---- what the answers list
+
 abbrev pub listedCrossing : CrossingAnswer → Answer (Option Crossing)
 listedCrossing (CrossingAnswer.Value c) = result (some c)
 listedCrossing CrossingAnswer.Missed = result none
 listedCrossing (CrossingAnswer.Refused r) = refusal r
+
+abbrev pub listedCrossingAsked : CrossingAsked → Answer Crossing
+listedCrossingAsked (CrossingAsked.Value c) = result c
+listedCrossingAsked (CrossingAsked.Refused r) = refusal r

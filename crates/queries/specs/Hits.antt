@@ -14,6 +14,7 @@ use Rattle.line2.specs.Intersection.{intersectionParam}
 use Rattle.line2.specs.declared.Line2.{Line2}
 use Rattle.line2.specs.declared.LineParams.{LineParams}
 use Rattle.curve2.specs.Section.{pointsOf}
+use Rattle.queries.specs.declared.Hit.{Hit}
 
 -- ---- the edges of a section, in order: each from a point to the next
 
@@ -32,10 +33,6 @@ sectionEdges ns = edgesOf (pointsOf ns)
 -- ---- hits
 
 -- a hit: its fraction along the line, and its edge
-pub record Hit : Type 0 where
-  pub t : Float
-  pub edge : ℕ
-
 abbrev pub hit : Float → ℕ → Hit
 hit t i = record { t = t; edge = i }
 

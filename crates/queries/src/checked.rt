@@ -1,6 +1,8 @@
 // The crossings of a line with a section whose entry tests passed, and the section's nearest point to a point.
 use crate::Crossing;
 use crate::CrossingAnswer;
+use crate::Hit;
+use crate::HitEdges;
 use crate::NearestAnswer;
 use crate::closest;
 use crate::hits;
@@ -17,17 +19,21 @@ use points::segment2::EdgePointAnswer;
 ghost use mathlib.Core.Path.{_≡_};
 ghost use mathlib.Core.Option.{some};
 ghost use Rattle.curve2.specs.Entry.{HasPoints};
-ghost use Rattle.queries.specs.Crossing.{crossed, crossingOf, joinedCrossingOf, listedCrossing};
+ghost use Rattle.queries.specs.Crossing.{span, crossed, crossingOf, joinedCrossingOf, listedCrossing};
 ghost use Rattle.queries.specs.Nearest.{nearestOf, listedNearest};
 
-// The crossing from the fraction t0 of a line to t1.
-fn spanned(line: Line2, t0: f64, t1: f64) -> CrossingAnswer
-    ensures { λ r. ⌜ listedCrossing r ≡ crossed line (some (record { t0 = t0; t1 = t1 })) ⌝ }
+// The crossing from a line's first hit to its second.
+fn spanned(line: Line2, first: Hit, second: Hit) -> CrossingAnswer
+    ensures { λ r. ⌜ listedCrossing r ≡ crossed line (some (span first second)) ⌝ }
 {
-    match line.at(t0) {
-        PointAnswer::Value(a) => match line.at(t1) {
+    let edges = HitEdges {
+        first: first.edge,
+        second: second.edge,
+    };
+    match line.at(first.t) {
+        PointAnswer::Value(a) => match line.at(second.t) {
             PointAnswer::Value(b) => match Line2::from_points(a, b) {
-                LineAnswer::Value(k) => CrossingAnswer::Value(Crossing { line: k }),
+                LineAnswer::Value(k) => CrossingAnswer::Value(Crossing { line: k, edges }),
                 LineAnswer::Refused(r) => CrossingAnswer::Refused(r),
             },
             PointAnswer::Refused(r) => CrossingAnswer::Refused(r),
@@ -43,11 +49,11 @@ pub fn crossing_line(section: &[f64], line: Line2) -> CrossingAnswer
 {
     match hits::seen_hits(section, line) {
         SeenAnswer::Value(seen) => match seen {
-            Seen::Pair(s, t) => {
-                if t < s {
-                    return spanned(line, t, s);
+            Seen::Pair(g, h) => {
+                if h.t < g.t {
+                    return spanned(line, h, g);
                 }
-                spanned(line, s, t)
+                spanned(line, g, h)
             }
             Seen::Nothing => CrossingAnswer::Missed,
             Seen::One(_) => CrossingAnswer::Missed,
@@ -63,9 +69,10 @@ pub fn joined_crossing(section: &[f64], line: Line2) -> CrossingAnswer
     ensures { λ r. ⌜ listedCrossing r ≡ joinedCrossingOf (now (section .entry)) line ⌝ }
 {
     let mut ts = [0.0; MOST_EDGES];
-    match joined::sorted_hits(section, line, &mut ts) {
-        CountAnswer::Value(n) => match joined::kept_hits(&ts, n) {
-            Seen::Pair(s, t) => spanned(line, s, t),
+    let mut es = [0; MOST_EDGES];
+    match joined::sorted_hits(section, line, &mut ts, &mut es) {
+        CountAnswer::Value(n) => match joined::kept_hits(&ts, &es, n) {
+            Seen::Pair(g, h) => spanned(line, g, h),
             Seen::Nothing => CrossingAnswer::Missed,
             Seen::One(_) => CrossingAnswer::Missed,
             Seen::Many => CrossingAnswer::Missed,

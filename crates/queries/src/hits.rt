@@ -1,4 +1,5 @@
 // The hits of a line with a section's edges, in one pass.
+use crate::Hit;
 use errors::Refusal;
 use line2::Line2;
 use line2::ParamsAnswer;
@@ -21,8 +22,8 @@ pub enum HitAnswer {
 // The hits so far, as far as a crossing needs them.
 pub enum Seen {
     Nothing,
-    One(f64),
-    Pair(f64, f64),
+    One(Hit),
+    Pair(Hit, Hit),
     Many,
 }
 
@@ -83,12 +84,12 @@ pub(crate) fn hit_at(section: &[f64], i: usize, line: Line2) -> HitAnswer
 }
 
 // One more hit.
-pub(crate) fn added(seen: Seen, t: f64) -> Seen
-    ensures { λ r. ⌜ r ≡ addedTo seen t ⌝ }
+pub(crate) fn added(seen: Seen, hit: Hit) -> Seen
+    ensures { λ r. ⌜ r ≡ addedTo seen hit ⌝ }
 {
     match seen {
-        Seen::Nothing => Seen::One(t),
-        Seen::One(s) => Seen::Pair(s, t),
+        Seen::Nothing => Seen::One(hit),
+        Seen::One(first) => Seen::Pair(first, hit),
         Seen::Pair(_, _) => Seen::Many,
         Seen::Many => Seen::Many,
     }
@@ -104,7 +105,8 @@ pub(crate) fn seen_hits(section: &[f64], line: Line2) -> SeenAnswer
     while i + 3 < section.len() {
         match hit_at(section, i, line) {
             HitAnswer::At(t) => {
-                seen = added(seen, t);
+                let edge = i / 2;
+                seen = added(seen, Hit { t, edge });
             }
             HitAnswer::Missed => {}
             HitAnswer::Refused(r) => {

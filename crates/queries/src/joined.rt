@@ -1,4 +1,5 @@
-// The joined crossing: hits near each other count as one. Their fractions are kept sorted in an array.
+// The joined crossing: hits near each other count as one. Their fractions are kept sorted in an array, and their edges in another.
+use crate::Hit;
 use crate::hits;
 use crate::hits::HitAnswer;
 use crate::hits::Seen;
@@ -6,11 +7,12 @@ use curve2::MOST_POINTS;
 use errors::Refusal;
 use line2::Line2;
 ghost use mathlib.Core.Path.{_≡_};
-ghost use mathlib.Core.List.{_++_};
 ghost use Prim.Native.Nat.{_+_, _≤_, _<_};
-ghost use lib.ListN.{length, take, drop};
+ghost use lib.ListN.{length, getD, take};
+ghost use lib.Ieee.{nan};
 ghost use Rattle.curve2.specs.Entry.{HasPoints};
-ghost use Rattle.queries.specs.Code.{placeOf, insertedFraction, sortedFractions, seenKept, firstOf, hitCount, mostEdges};
+ghost use Rattle.queries.specs.Hits.{hit, inserted, nearby, dropped};
+ghost use Rattle.queries.specs.Code.{seenOf, placeOf, firstHits, sortedHits, countedHits, hitCount, mostEdges};
 
 // One place for each edge that a section can have.
 pub(crate) const MOST_EDGES: usize = MOST_POINTS - 1;
@@ -36,34 +38,43 @@ fn place_of(ts: &[f64], n: usize, t: f64) -> usize
     j
 }
 
-// Puts t in its place among the first n.
-fn insert(ts: &mut [f64], n: usize, t: f64)
-    requires { ⌜ n < length (now ts) ⌝ }
-    ensures { λ _. ⌜ now (ts .exit) ≡ insertedFraction t (take n (now (ts .entry))) ++ drop (n + 1) (now (ts .entry)) ⌝ }
+// Puts a hit in its place among the first n: what stands from there on moves up by one.
+fn insert(ts: &mut [f64], es: &mut [usize], n: usize, hit: Hit)
+    requires { ⌜ (n < length (now ts)) × (n < length (now es)) ⌝ }
+    ensures { λ _. ⌜ firstHits (n + 1) (now (ts .exit)) (now (es .exit)) ≡ inserted hit (firstHits n (now (ts .entry)) (now (es .entry))) ⌝ }
 {
-    let place = place_of(ts, n, t);
-    let mut k = place;
-    let mut carry = t;
+    let mut t = hit.t;
+    let mut edge = hit.edge;
+    let mut k = place_of(ts, n, t);
     while k <= n {
-        let next = ts[k];
-        ts[k] = carry;
-        carry = next;
+        let next_t = ts[k];
+        let next_edge = es[k];
+        ts[k] = t;
+        es[k] = edge;
+        t = next_t;
+        edge = next_edge;
         k += 1;
     }
 }
 
-// The hits' fractions of a line with every edge, sorted into ts.
-pub(crate) fn sorted_hits(section: &[f64], line: Line2, ts: &mut [f64]) -> CountAnswer
+// The hits of a line with every edge, sorted: their fractions into ts, their edges into es.
+pub(crate) fn sorted_hits(
+    section: &[f64],
+    line: Line2,
+    ts: &mut [f64],
+    es: &mut [usize],
+) -> CountAnswer
     requires { ⌜ HasPoints (now section) ⌝ }
-    requires { ⌜ mostEdges ≤ length (now ts) ⌝ }
-    ensures { λ r. ⌜ (firstOf r (now (ts .exit)) ≡ sortedFractions (now (section .entry)) line) × (hitCount r ≤ mostEdges) ⌝ }
+    requires { ⌜ (mostEdges ≤ length (now ts)) × (mostEdges ≤ length (now es)) ⌝ }
+    ensures { λ r. ⌜ (countedHits r (now (ts .exit)) (now (es .exit)) ≡ sortedHits (now (section .entry)) line) × (hitCount r ≤ mostEdges) ⌝ }
 {
     let mut n: usize = 0;
     let mut i: usize = 0;
     while i + 3 < section.len() {
         match hits::hit_at(section, i, line) {
             HitAnswer::At(t) => {
-                insert(ts, n, t);
+                let edge = i / 2;
+                insert(ts, es, n, Hit { t, edge });
                 n += 1;
             }
             HitAnswer::Missed => {}
@@ -76,22 +87,39 @@ pub(crate) fn sorted_hits(section: &[f64], line: Line2, ts: &mut [f64]) -> Count
     CountAnswer::Value(n)
 }
 
+// The hit at place k.
+fn hit_in(ts: &[f64], es: &[usize], k: usize) -> Hit
+    requires { ⌜ (k < length (now ts)) × (k < length (now es)) ⌝ }
+    ensures { λ r. ⌜ r ≡ hit (getD (now (ts .entry)) k nan) (getD (now (es .entry)) k 0) ⌝ }
+{
+    let t = ts[k];
+    let edge = es[k];
+    Hit { t, edge }
+}
+
+// Whether a hit is near the last kept one.
+fn is_near(last: Hit, h: Hit) -> bool
+    ensures { λ r. ⌜ r ≡ nearby last h ⌝ }
+{
+    points::is_within(1e-8, h.t - last.t)
+}
+
 // What is seen of the first n, those near the last kept one dropped.
-pub(crate) fn kept_hits(ts: &[f64], n: usize) -> Seen
-    requires { ⌜ n ≤ length (now ts) ⌝ }
-    ensures { λ r. ⌜ r ≡ seenKept (take n (now (ts .entry))) ⌝ }
+pub(crate) fn kept_hits(ts: &[f64], es: &[usize], n: usize) -> Seen
+    requires { ⌜ (n ≤ length (now ts)) × (n ≤ length (now es)) ⌝ }
+    ensures { λ r. ⌜ r ≡ seenOf (dropped nearby (firstHits n (now (ts .entry)) (now (es .entry)))) ⌝ }
 {
     if n == 0 {
         return Seen::Nothing;
     }
-    let mut last = ts[0];
+    let mut last = hit_in(ts, es, 0);
     let mut seen = Seen::One(last);
     let mut k: usize = 1;
     while k < n {
-        let t = ts[k];
-        if !points::is_within(1e-8, t - last) {
-            seen = hits::added(seen, t);
-            last = t;
+        let h = hit_in(ts, es, k);
+        if !is_near(last, h) {
+            seen = hits::added(seen, h);
+            last = h;
         }
         k += 1;
     }

@@ -9,12 +9,15 @@ use Rattle.points.specs.declared.Point2.{Point2}
 use Rattle.line2.specs.declared.Line2.{Line2}
 use Rattle.curve2.specs.declared.CurveStation2.{CurveStation2}
 use Rattle.cleaning.specs.declared.Curve.{Curve}
+use Rattle.queries.specs.declared.HitEdges.{HitEdges}
 use Rattle.queries.specs.declared.Crossing.{Crossing}
+use Rattle.circles.specs.declared.CircleOnLine.{CircleOnLine}
 use Rattle.runs.specs.Run.{Ending, ended, spent, unfinished}
 use Rattle.inscribed.specs.Store.{width, numbersOf, circlesEntry}
 use Rattle.inscribed.specs.declared.Inscribed.{Inscribed}
 use Rattle.inscribed.specs.declared.FrontAndBack.{FrontAndBack}
 use Rattle.refine.specs.Report.{Called, refusedOnEntry, ran, endingNumber}
+use Rattle.camber.specs.March.{MarchTold}
 
 -- the number that is returned, 0 for a result, and what is left behind the references
 pub record Told (A : Type 0) : Type 0 where
@@ -41,8 +44,23 @@ givenLine ox oy dx dy = record { origin = record { x = ox; y = oy }; direction =
 abbrev pub lineNumbers : Line2 → List Float
 lineNumbers l = l .origin .x ∷ l .origin .y ∷ l .direction .x ∷ l .direction .y ∷ []
 
-abbrev pub crossingNumbers : Crossing → List Float
-crossingNumbers c = lineNumbers (c .line)
+-- the two edges of a crossing
+abbrev pub edgeNumbers : HitEdges → List ℕ
+edgeNumbers e = e .first ∷ e .second ∷ []
+
+-- numbers, and the edges of the crossing that they come from
+pub record CrossingCells : Type 0 where
+  pub numbers : List Float
+  pub edges : List ℕ
+
+abbrev pub crossingCells : List Float → List ℕ → CrossingCells
+crossingCells ns es = record { numbers = ns; edges = es }
+
+abbrev pub crossingLeft : Crossing → CrossingCells
+crossingLeft c = crossingCells (lineNumbers (c .line)) (edgeNumbers (c .edges))
+
+abbrev pub circleOnLineLeft : CircleOnLine → CrossingCells
+circleOnLineLeft c = crossingCells (numbersOf (c .circle)) (edgeNumbers (c .edges))
 
 -- a station's numbers, point, direction and fraction, and its edge
 pub record StationCells : Type 0 where
@@ -106,6 +124,26 @@ pub record ToldRun : Type 0 where
 unfoldable pub toldRun : {A : Type 0} → ℕ → ℕ → Called A → ToldRun
 toldRun count units (refusedOnEntry r store) = record { number = numberOf r; count = count; units = units; store = store }
 toldRun count units (ran r) = record { number = endingNumber (r .ending); count = r .count; units = r .units; store = r .store }
+
+-- the edges of a march's start, and whether they were found: told wherever the march was not refused on entry
+pub record StartCells : Type 0 where
+  pub edges : List ℕ
+  pub found : Bool
+
+abbrev pub startCells : List ℕ → Bool → StartCells
+startCells es b = record { edges = es; found = b }
+
+unfoldable pub edgesLeft : List ℕ → Option HitEdges → StartCells
+edgesLeft before (some e) = startCells (edgeNumbers e) true
+edgesLeft before none = startCells before false
+
+unfoldable pub startAfter : StartCells → Option HitEdges → Called (Unit {0}) → StartCells
+unfolding edgesLeft
+startAfter before edges (refusedOnEntry r store) = before
+startAfter before edges (ran r) = edgesLeft (before .edges) edges
+
+abbrev pub startLeft : StartCells → MarchTold → StartCells
+startLeft before m = startAfter before (m .edges) (m .called)
 
 -- the edge point of a fit, where it ends with one
 unfoldable pub pointAtEnd : List Float → Ending (Answer Point2) → List Float

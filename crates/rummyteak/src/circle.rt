@@ -8,7 +8,7 @@ use points::Vector2;
 ghost use mathlib.Core.Path.{_≡_};
 ghost use Rattle.inscribed.specs.Store.{numbersOf, circleAt};
 ghost use Rattle.circles.specs.Asked.{fromCrossingAsked, tryAsked, trialAsked};
-ghost use Rattle.rummyteak.specs.Told.{toldAs, givenLine, trialCells, trialLeft};
+ghost use Rattle.rummyteak.specs.Told.{toldAs, givenLine, crossingCells, circleOnLineLeft, trialCells, trialLeft};
 
 // The circle of a line that is taken as a crossing.
 #[no_mangle]
@@ -33,7 +33,7 @@ pub extern "C" fn rummyteak_inscribed_from_crossing(
     )
 }
 
-// The circle on a line.
+// The circle on a line, and the edges of the line's crossing.
 #[no_mangle]
 pub extern "C" fn rummyteak_try_inscribed(
     section: &[f64],
@@ -44,15 +44,17 @@ pub extern "C" fn rummyteak_try_inscribed(
     dx: f64,
     dy: f64,
     circle: &mut [f64; WIDTH],
+    edges: &mut [usize; 2],
 ) -> u32
-    ensures { λ r. ⌜ (record { number = r; left = now (circle .exit) }) ≡ toldAs numbersOf (now (circle .entry)) (tryAsked (now (section .entry)) «section_tol» tol (givenLine ox oy dx dy)) ⌝ }
+    ensures { λ r. ⌜ (record { number = r; left = crossingCells (now (circle .exit)) (now (edges .exit)) }) ≡ toldAs circleOnLineLeft (crossingCells (now (circle .entry)) (now (edges .entry))) (tryAsked (now (section .entry)) «section_tol» tol (givenLine ox oy dx dy)) ⌝ }
 {
     let origin = Point2 { x: ox, y: oy };
     let direction = Vector2 { x: dx, y: dy };
     let line = Line2 { origin, direction };
-    telling::tell_circle(
+    telling::tell_circle_on_line(
         circles::try_inscribed(section, section_tol, tol, line),
         circle,
+        edges,
     )
 }
 

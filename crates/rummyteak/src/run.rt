@@ -8,9 +8,9 @@ use points::Vector2;
 ghost use mathlib.Core.Path.{_≡_};
 ghost use Rattle.inscribed.specs.Store.{circleAt};
 ghost use Rattle.refine.specs.Refinement.{refineOf};
-ghost use Rattle.camber.specs.March.{marchOf};
+ghost use Rattle.camber.specs.March.{marchOf, marchTold};
 ghost use Rattle.camber.specs.Extraction.{extractionOf};
-ghost use Rattle.rummyteak.specs.Told.{givenLine, toldRun};
+ghost use Rattle.rummyteak.specs.Told.{givenLine, toldRun, startCells, startLeft};
 
 // A circle offered to a store that holds `stated`, refined within a limit of units.
 #[no_mangle]
@@ -35,7 +35,7 @@ pub extern "C" fn rummyteak_refine_and_push(
     )
 }
 
-// The circles on one side of a line, within a limit of units.
+// The circles on one side of a line, within a limit of units, and the edges of the line's crossing once that is found.
 #[no_mangle]
 pub extern "C" fn rummyteak_march(
     section: &[f64],
@@ -49,17 +49,18 @@ pub extern "C" fn rummyteak_march(
     limit: u32,
     count: &mut usize,
     units: &mut u32,
+    edges: &mut [usize; 2],
+    found: &mut bool,
 ) -> u32
     ensures { λ r. ⌜ (record { number = r; count = now (count .exit); units = now (units .exit); store = now (store .exit) }) ≡ toldRun (now (count .entry)) (now (units .entry)) (marchOf (record { section = now (section .entry); sectionTol = «section_tol»; tol = tol; line = givenLine ox oy dx dy; store = now (store .entry) }) limit) ⌝ }
+    ensures { λ r. ⌜ startCells (now (edges .exit)) (now (found .exit)) ≡ startLeft (startCells (now (edges .entry)) (now (found .entry))) (marchTold (record { section = now (section .entry); sectionTol = «section_tol»; tol = tol; line = givenLine ox oy dx dy; store = now (store .entry) }) limit) ⌝ }
 {
     let origin = Point2 { x: ox, y: oy };
     let direction = Vector2 { x: dx, y: dy };
     let line = Line2 { origin, direction };
-    telling::tell_run(
-        camber::march::march(section, section_tol, tol, line, store, limit),
-        count,
-        units,
-    )
+    let answer = camber::march::march(section, section_tol, tol, line, store, limit);
+    telling::tell_edges(answer, edges, found);
+    telling::tell_run(camber::march::called(answer), count, units)
 }
 
 // The circles on both sides of a line, within a limit of units.

@@ -5,7 +5,7 @@ use points::Point2;
 use points::Vector2;
 ghost use mathlib.Core.Path.{_≡_};
 ghost use Rattle.sections.specs.Asked.{closedAsked, lengthAsked, frontAsked, backAsked, vertexAsked, atLengthAsked, lengthAlongAsked, closestAsked, crossingAsked, joinedAsked};
-ghost use Rattle.rummyteak.specs.Told.{toldAs, told, givenLine, crossingNumbers, stationCells, stationLeft};
+ghost use Rattle.rummyteak.specs.Told.{toldAs, told, givenLine, crossingCells, crossingLeft, stationCells, stationLeft};
 
 // Whether a section is closed.
 #[no_mangle]
@@ -114,7 +114,7 @@ pub extern "C" fn rummyteak_length_along(
     )
 }
 
-// Where a line crosses a section.
+// Where a line crosses a section, and on which edges.
 #[no_mangle]
 pub extern "C" fn rummyteak_crossing_line(
     section: &[f64],
@@ -124,13 +124,14 @@ pub extern "C" fn rummyteak_crossing_line(
     dx: f64,
     dy: f64,
     crossing: &mut [f64; 4],
+    edges: &mut [usize; 2],
 ) -> u32
-    ensures { λ r. ⌜ (record { number = r; left = now (crossing .exit) }) ≡ toldAs crossingNumbers (now (crossing .entry)) (crossingAsked (now (section .entry)) tol (givenLine ox oy dx dy)) ⌝ }
+    ensures { λ r. ⌜ (record { number = r; left = crossingCells (now (crossing .exit)) (now (edges .exit)) }) ≡ toldAs crossingLeft (crossingCells (now (crossing .entry)) (now (edges .entry))) (crossingAsked (now (section .entry)) tol (givenLine ox oy dx dy)) ⌝ }
 {
     let origin = Point2 { x: ox, y: oy };
     let direction = Vector2 { x: dx, y: dy };
     let line = Line2 { origin, direction };
-    telling::tell_crossing(sections::crossing_line(section, tol, line), crossing)
+    telling::tell_crossing(sections::crossing_line(section, tol, line), crossing, edges)
 }
 
 // The same, where hits near each other count as one.
@@ -143,11 +144,16 @@ pub extern "C" fn rummyteak_joined_crossing(
     dx: f64,
     dy: f64,
     crossing: &mut [f64; 4],
+    edges: &mut [usize; 2],
 ) -> u32
-    ensures { λ r. ⌜ (record { number = r; left = now (crossing .exit) }) ≡ toldAs crossingNumbers (now (crossing .entry)) (joinedAsked (now (section .entry)) tol (givenLine ox oy dx dy)) ⌝ }
+    ensures { λ r. ⌜ (record { number = r; left = crossingCells (now (crossing .exit)) (now (edges .exit)) }) ≡ toldAs crossingLeft (crossingCells (now (crossing .entry)) (now (edges .entry))) (joinedAsked (now (section .entry)) tol (givenLine ox oy dx dy)) ⌝ }
 {
     let origin = Point2 { x: ox, y: oy };
     let direction = Vector2 { x: dx, y: dy };
     let line = Line2 { origin, direction };
-    telling::tell_crossing(sections::joined_crossing(section, tol, line), crossing)
+    telling::tell_crossing(
+        sections::joined_crossing(section, tol, line),
+        crossing,
+        edges,
+    )
 }

@@ -1,4 +1,7 @@
 // How an answer is told by the C interface: its number is returned, and its values are written where there is a result.
+use camber::march::MarchAnswer;
+use camber::march::StartEdges;
+use circles::CircleOnLineAnswer;
 use cleaning::CurveAnswer;
 use curve2::Entry;
 use curve2::StationAnswer;
@@ -12,9 +15,9 @@ use inscribed::InscribedAnswer;
 use inscribed::store::WIDTH;
 use line2::LineAnswer;
 use lists::PlaceAnswer;
+use queries::CrossingAsked;
 use refine::RunAnswer;
 use sections::BoolAnswer;
-use sections::CrossingAsked;
 ghost use mathlib.Core.Path.{_≡_};
 ghost use mathlib.Core.List.{List};
 ghost use lib.Ieee.{Float};
@@ -23,7 +26,10 @@ ghost use Rattle.line2.specs.Lines.{listedLine};
 ghost use Rattle.curve2.specs.Entry.{listedEntry};
 ghost use Rattle.curve2.specs.Stations.{listedStation};
 ghost use Rattle.cleaning.specs.Cleaning.{listedCurve};
-ghost use Rattle.sections.specs.Asked.{listedBool, listedCrossingAsked};
+ghost use Rattle.sections.specs.Asked.{listedBool};
+ghost use Rattle.queries.specs.Crossing.{listedCrossingAsked};
+ghost use Rattle.circles.specs.Asked.{listedCircleOnLine};
+ghost use Rattle.camber.specs.March.{listedEdges, listedMarch};
 ghost use Rattle.inscribed.specs.Circles.{listedInscribed};
 ghost use Rattle.inscribed.specs.Store.{numbersOf};
 ghost use Rattle.inscribed.specs.Lists.{listedEnds};
@@ -32,7 +38,7 @@ ghost use Rattle.refine.specs.Report.{listedCalled};
 ghost use Rattle.lists.specs.Asked.{listedPlace};
 ghost use Rattle.gap.specs.Rounds.{listedEdgeEnd};
 ghost use Rattle.edges.specs.Edges.{listedFitCall};
-ghost use Rattle.rummyteak.specs.Told.{toldAs, told, lineNumbers, crossingNumbers, stationCells, stationLeft, trialCells, trialLeft, endCells, endsLeft, curveCells, toldRun, pointAtEnd, pointLeft};
+ghost use Rattle.rummyteak.specs.Told.{toldAs, told, lineNumbers, crossingCells, crossingLeft, circleOnLineLeft, startCells, edgesLeft, startLeft, stationCells, stationLeft, trialCells, trialLeft, endCells, endsLeft, curveCells, toldRun, pointAtEnd, pointLeft};
 
 // A number.
 pub(crate) fn tell_scalar(a: ScalarAnswer, value: &mut f64) -> u32
@@ -95,20 +101,28 @@ pub(crate) fn tell_station(a: StationAnswer, station: &mut [f64; 5], index: &mut
     }
 }
 
-// A crossing: origin and direction.
-pub(crate) fn tell_crossing(a: CrossingAsked, crossing: &mut [f64; 4]) -> u32
-    ensures { λ r. ⌜ (record { number = r; left = now (crossing .exit) }) ≡ toldAs crossingNumbers (now (crossing .entry)) (listedCrossingAsked a) ⌝ }
+// A crossing: origin and direction, and the two edges.
+pub(crate) fn tell_crossing(
+    a: CrossingAsked,
+    crossing: &mut [f64; 4],
+    edges: &mut [usize; 2],
+) -> u32
+    ensures { λ r. ⌜ (record { number = r; left = crossingCells (now (crossing .exit)) (now (edges .exit)) }) ≡ toldAs crossingLeft (crossingCells (now (crossing .entry)) (now (edges .entry))) (listedCrossingAsked a) ⌝ }
 {
     match a {
         CrossingAsked::Value(c) => {
             let line = c.line;
+            let hit = c.edges;
             let origin = line.origin;
             let direction = line.direction;
             let x = origin.x;
             let y = origin.y;
             let dx = direction.x;
             let dy = direction.y;
+            let first = hit.first;
+            let second = hit.second;
             *crossing = [x, y, dx, dy];
+            *edges = [first, second];
             0
         }
         CrossingAsked::Refused(r) => errors::number(r),
@@ -158,6 +172,28 @@ pub(crate) fn tell_circle(a: InscribedAnswer, circle: &mut [f64; WIDTH]) -> u32
             0
         }
         InscribedAnswer::Refused(r) => errors::number(r),
+    }
+}
+
+// The circle on a line, and the edges of the line's crossing.
+pub(crate) fn tell_circle_on_line(
+    a: CircleOnLineAnswer,
+    circle: &mut [f64; WIDTH],
+    edges: &mut [usize; 2],
+) -> u32
+    ensures { λ r. ⌜ (record { number = r; left = crossingCells (now (circle .exit)) (now (edges .exit)) }) ≡ toldAs circleOnLineLeft (crossingCells (now (circle .entry)) (now (edges .entry))) (listedCircleOnLine a) ⌝ }
+{
+    match a {
+        CircleOnLineAnswer::Value(c) => {
+            let inscribed = c.circle;
+            let hit = c.edges;
+            let first = hit.first;
+            let second = hit.second;
+            put_circle(circle, inscribed);
+            *edges = [first, second];
+            0
+        }
+        CircleOnLineAnswer::Refused(r) => errors::number(r),
     }
 }
 
@@ -239,6 +275,36 @@ pub(crate) fn tell_run(a: RunAnswer, count: &mut usize, units: &mut u32) -> u32
             told
         }
         RunAnswer::Refused(_) => told,
+    }
+}
+
+// Writes the edges of a march's start, where they were found, and whether they were.
+fn put_edges(start: StartEdges, edges: &mut [usize; 2], found: &mut bool)
+    ensures { λ _. ⌜ startCells (now (edges .exit)) (now (found .exit)) ≡ edgesLeft (now (edges .entry)) (listedEdges start) ⌝ }
+{
+    match start {
+        StartEdges::Found(e) => {
+            let first = e.first;
+            let second = e.second;
+            *edges = [first, second];
+            *found = true;
+        }
+        StartEdges::Nothing => {
+            *found = false;
+        }
+    }
+}
+
+// The edges of a march's start, unless it was refused on entry.
+pub(crate) fn tell_edges(a: MarchAnswer, edges: &mut [usize; 2], found: &mut bool)
+    ensures { λ _. ⌜ ((store : List Float) → startCells (now (edges .exit)) (now (found .exit)) ≡ startLeft (startCells (now (edges .entry)) (now (found .entry))) (listedMarch a store)) ⌝ }
+{
+    match a {
+        MarchAnswer::Ran(m) => {
+            let start = m.edges;
+            put_edges(start, edges, found);
+        }
+        MarchAnswer::Refused(_) => {}
     }
 }
 

@@ -12,13 +12,12 @@ use Rattle.line2.specs.declared.Line2.{Line2}
 use Rattle.curve2.specs.Section.{isClosed, wholeLength}
 use Rattle.curve2.specs.Entry.{sectionEntry}
 use Rattle.curve2.specs.declared.AlsoBad.{AlsoBad}
-use Rattle.queries.specs.Crossing.{crossingOf, joinedCrossingOf, orNoCrossing}
+use Rattle.queries.specs.Crossing.{crossingOn, joinedCrossingOf, orNoCrossing}
 use Rattle.queries.specs.declared.Crossing.{Crossing}
 use Rattle.curve2.specs.Stations.{lastVertex, atVertex}
 use Rattle.curve2.specs.declared.CurveStation2.{CurveStation2}
 use Rattle.sections.specs.Places.{atLength, lengthAlong, atClosest}
 use Rattle.sections.specs.declared.BoolAnswer.{BoolAnswer}
-use Rattle.sections.specs.declared.CrossingAsked.{CrossingAsked}
 
 -- nothing beside the section; a number that isn't finite (2); a place that isn't there (4)
 abbrev pub alone : AlsoBad
@@ -70,7 +69,7 @@ closestAsked ns tol p = sectionEntry ns tol (withNumber (finitePoint p)) >>= λ 
 -- ---- crossings
 
 unfoldable pub crossingAsked : List Float → Float → Line2 → Answer Crossing
-crossingAsked ns tol l = sectionEntry ns tol (withNumber (finiteLine l)) >>= λ passed. crossingOf ns l >>= orNoCrossing
+crossingAsked ns tol l = sectionEntry ns tol (withNumber (finiteLine l)) >>= λ passed. crossingOn ns l
 
 unfoldable pub joinedAsked : List Float → Float → Line2 → Answer Crossing
 joinedAsked ns tol l = sectionEntry ns tol (withNumber (finiteLine l)) >>= λ passed. joinedCrossingOf ns l >>= orNoCrossing
@@ -80,7 +79,3 @@ joinedAsked ns tol l = sectionEntry ns tol (withNumber (finiteLine l)) >>= λ pa
 abbrev pub listedBool : BoolAnswer → Answer Bool
 listedBool (BoolAnswer.Value b) = result b
 listedBool (BoolAnswer.Refused r) = refusal r
-
-abbrev pub listedCrossingAsked : CrossingAsked → Answer Crossing
-listedCrossingAsked (CrossingAsked.Value c) = result c
-listedCrossingAsked (CrossingAsked.Refused r) = refusal r

@@ -1,4 +1,3 @@
 -- What is asked of a section handed in: the entry tests, then the step.
 pub mod Places
 pub mod Asked
-pub mod Code

@@ -9,28 +9,21 @@ use errors::Refusal;
 use errors::ScalarAnswer;
 use line2::Line2;
 use points::Point2;
-use queries::Crossing;
-use queries::CrossingAnswer;
+use queries::CrossingAsked;
 ghost use mathlib.Core.Path.{_≡_};
 ghost use mathlib.Core.Bool.{false};
 ghost use lib.Dec.{ltb};
 ghost use Rattle.errors.specs.Answer.{listedScalar};
 ghost use Rattle.curve2.specs.Entry.{sectionEntry, listedEntry};
 ghost use Rattle.curve2.specs.Stations.{lastVertex, listedStation};
-ghost use Rattle.sections.specs.Asked.{finitePoint, finiteLine, closedAsked, lengthAsked, frontAsked, backAsked, vertexAsked, atLengthAsked, lengthAlongAsked, closestAsked, crossingAsked, joinedAsked, listedBool, listedCrossingAsked};
-ghost use Rattle.sections.specs.Code.{askedOf};
+ghost use Rattle.sections.specs.Asked.{finitePoint, finiteLine, closedAsked, lengthAsked, frontAsked, backAsked, vertexAsked, atLengthAsked, lengthAlongAsked, closestAsked, crossingAsked, joinedAsked, listedBool};
+ghost use Rattle.queries.specs.Crossing.{listedCrossingAsked};
 
 mod lengths;
 
 // Yes or no, or why there is neither.
 pub enum BoolAnswer {
     Value(bool),
-    Refused(Refusal),
-}
-
-// A crossing asked for, or why there is none.
-pub enum CrossingAsked {
-    Value(Crossing),
     Refused(Refusal),
 }
 
@@ -175,24 +168,13 @@ pub fn at_closest_to_point(section: &[f64], tol: f64, p: Point2) -> StationAnswe
 
 // ---- crossings
 
-// A line asked for directly must cross: 8 where it has not exactly two hits.
-fn asked(found: CrossingAnswer) -> CrossingAsked
-    ensures { λ r. ⌜ listedCrossingAsked r ≡ askedOf found ⌝ }
-{
-    match found {
-        CrossingAnswer::Value(c) => CrossingAsked::Value(c),
-        CrossingAnswer::Missed => CrossingAsked::Refused(Refusal::NoCrossing),
-        CrossingAnswer::Refused(r) => CrossingAsked::Refused(r),
-    }
-}
-
 // Where a line crosses the section: 2 where the line isn't finite, 8 where it has not exactly two hits.
 pub fn crossing_line(section: &[f64], tol: f64, line: Line2) -> CrossingAsked
     ensures { λ r. ⌜ listedCrossingAsked r ≡ crossingAsked (now (section .entry)) tol line ⌝ }
 {
     let good = is_finite_line(line);
     match entered(section, tol, !good, false) {
-        Entry::Passed => asked(queries::checked::crossing_line(section, line)),
+        Entry::Passed => queries::asked(queries::checked::crossing_line(section, line)),
         Entry::Refused(r) => CrossingAsked::Refused(r),
     }
 }
@@ -203,7 +185,7 @@ pub fn joined_crossing(section: &[f64], tol: f64, line: Line2) -> CrossingAsked
 {
     let good = is_finite_line(line);
     match entered(section, tol, !good, false) {
-        Entry::Passed => asked(queries::checked::joined_crossing(section, line)),
+        Entry::Passed => queries::asked(queries::checked::joined_crossing(section, line)),
         Entry::Refused(r) => CrossingAsked::Refused(r),
     }
 }

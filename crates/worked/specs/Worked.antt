@@ -1,7 +1,7 @@
 -- The sums done by hand that are marked P: one row each, and one claim for all of them. Assumes nothing.
 use mathlib.Core.Path.{_≡_, refl}
 use mathlib.Core.Bool.{Bool, true, false}
-use mathlib.Core.List.{List, [], _∷_}
+use mathlib.Core.List.{List, [], _∷_, _++_}
 use Prim.Native.Nat.{ℕ}
 use lib.Count.{trailingZeros}
 use lib.Ieee.{Float, binary64, ofBits, ofFields, odd, units, round, size, span, climb, neg, sum, add, sub, mul, div, lt, eq, le}
@@ -25,6 +25,8 @@ use Rattle.points.specs.Closest.{fractionOn, heldPoint, measuredTo, closestOnEd
 use Rattle.curve2.specs.Stations.{edgeDirection, meanDirection, vertexDirection, atVertex, station}
 use Rattle.sections.specs.Places.{insideEdge, atLengthFrom, atLength}
 use Rattle.inscribed.specs.Circles.{inscribed, camberPoint}
+use Rattle.circles.specs.Asked.{circleEntry, tryAsked}
+use Rattle.circles.specs.declared.CircleOnLine.{CircleOnLine}
 use Rattle.halving.specs.Halving.{movedEnds, halved, circleBetween, halving, halvedFrom, resolveTol, firstEnds, fromLine, fromCrossing, circleOn, tryInscribed}
 use Rattle.sections.specs.Asked.{atLengthAsked, crossingAsked, joinedAsked}
 use Rattle.inscribed.specs.Store.{numbersOf, circleFrom, circlesFrom, allNumbers, stored, badCircle, anyBad}
@@ -106,10 +108,10 @@ two = f0 ∷ f0 ∷ f½ ∷ f0 ∷ []
 line : Float → Float → Float → Float → Line2
 line ox oy dx dy = lineOf (point ox oy) (record { x = dx; y = dy })
 
--- the ends of a crossing: its origin, and its direction
-crossing : Float → Float → Float → Float → Crossing
+-- a crossing: its origin and its direction, and the two edges that it hits
+crossing : Float → Float → Float → Float → ℕ → ℕ → Crossing
 unfolding line
-crossing ox oy dx dy = record { line = line ox oy dx dy }
+crossing ox oy dx dy i j = record { line = line ox oy dx dy; edges = record { first = i; second = j } }
 
 vector : Float → Float → Vector2
 vector x y = record { x = x; y = y }
@@ -196,18 +198,18 @@ P4 =
     (atLengthAsked R f0·001 f9 ∷ atLengthAsked R f0·001 f20 ∷ atLengthAsked R f0·001 (neg f½) ∷ [])
     (result (station (point f8 f1) (vector f0 f1) 1 f½) ∷ result (station (point f0 f0) (vector (ofBits binary64 0x3fe6a09e667f3bcc) (ofBits binary64 0xbfe6a09e667f3bcc)) 3 f1) ∷ refusal OffCurve ∷ [])
 
--- R, line from (4,1) along (0,1): "(4,0) to (4,2)"
+-- R, line from (4,1) along (0,1): "(4,0) to (4,2)"; 02 (a): edges 0 and 2
 P5 : Row
 unfolding R line crossing
-P5 = row (crossingAsked R f0·001 (line f4 f1 f0 f1)) (result (crossing f4 f0 f0 f2))
+P5 = row (crossingAsked R f0·001 (line f4 f1 f0 f1)) (result (crossing f4 f0 f0 f2 0 2))
 
--- R, from (4,1) along (4,1): "8; joined: (0,0) to (8,2)"
+-- R, from (4,1) along (4,1): "8; joined: (0,0) to (8,2)"; 02 (a): edges 0 and 1, those of the kept hits
 P6 : Row
 unfolding R line crossing
 P6 =
     row
     (crossingAsked R f0·001 (line f4 f1 f4 f1) ∷ joinedAsked R f0·001 (line f4 f1 f4 f1) ∷ [])
-    (refusal NoCrossing ∷ result (crossing f0 f0 f8 f2) ∷ [])
+    (refusal NoCrossing ∷ result (crossing f0 f0 f8 f2 0 1) ∷ [])
 
 -- the circle of P5's crossing after at most n halvings: the loop's own test ends it before, or it is made n times
 halvedTimes : ℕ → Answer Inscribed
@@ -215,13 +217,13 @@ unfolding R line
 halvedTimes n = halving R (line f4 f0 f0 f2) (resolveTol f0·01) f2 n (firstEnds (point f4 f2) (point f4 f0))
 
 -- P5's crossing, general tolerance 0.01: "11 halvings, centre (4, 1.00048828125), radius 0.99951171875, contacts (4,0), (4,2)".
--- Eleven halvings give that circle, and ten another: the loop makes eleven.
+-- Eleven halvings give that circle, and ten another: the loop makes eleven. 02 (a): asked for by P5's line, the circle comes with edges 0 and 2.
 P7 : Row
 unfolding R line crossing halvedTimes
 P7 =
-    row
-    (fromCrossing R f0·01 (crossing f4 f0 f0 f2) ∷ halvedTimes 11 ∷ halvedTimes 10 ∷ [])
-    (result (inscribed (point f4 high) narrow (point f4 f0) (point f4 f2)) ∷ result (inscribed (point f4 high) narrow (point f4 f0) (point f4 f2)) ∷ result (inscribed (point f4 higher) narrower (point f4 f0) (point f4 f2)) ∷ [])
+    row {A = Answer CircleOnLine × List (Answer Inscribed)}
+    (tryAsked R f0·001 f0·01 (line f4 f1 f0 f1), halvedTimes 11 ∷ halvedTimes 10 ∷ [])
+    (result (record { circle = inscribed (point f4 high) narrow (point f4 f0) (point f4 f2); edges = record { first = 0; second = 2 } }), result (inscribed (point f4 high) narrow (point f4 f0) (point f4 f2)) ∷ result (inscribed (point f4 higher) narrower (point f4 f0) (point f4 f2)) ∷ [])
 
 -- radii 1, 3, 3, 2: "thickest at 2"
 P8 : Row
@@ -259,12 +261,32 @@ table : List Row
 unfolding P1 P2 P3 P4 P5 P6 P7 P8 P9 P10 P11 P12
 table = P1 ∷ P2 ∷ P3 ∷ P4 ∷ P5 ∷ P6 ∷ P7 ∷ P8 ∷ P9 ∷ P10 ∷ P11 ∷ P12 ∷ []
 
-rows-hold : Holds table
-unfolding table P1 P2 P3 P4 P5 P6 P7 P8 P9 P10 P11 P12 halvedTimes R U four two line crossing vector circle unused pairOfU swappedOfU atX onAxis turnedOnAxis edgeOfU numbered fitRan sqrtOf rootOfUnits wholeRoot rootDigits units size span climb odd trailingZeros ofBits ofFields round neg sum add sub mul div lt eq le
+-- the rows that need no run, and those of the edge fit
+steps-hold : Holds (P1 ∷ P2 ∷ P3 ∷ P4 ∷ P5 ∷ P6 ∷ P7 ∷ P8 ∷ P9 ∷ P10 ∷ [])
+unfolding P1 P2 P3 P4 P5 P6 P7 P8 P9 P10 halvedTimes R U four two line crossing vector circle unused pairOfU swappedOfU atX onAxis turnedOnAxis edgeOfU numbered fitRan sqrtOf rootOfUnits wholeRoot rootDigits units size span climb odd trailingZeros ofBits ofFields round neg sum add sub mul div lt eq le
     dotOf normOf difference normalized lineThrough atParam intersectionParam pointsOf plainDist isClosed lengthsFrom lengthsOf wholeLength badNumbers crowded notRising sectionEntry keptAfter kept lastOf endsMeet forcedClosed curveOf cleaned
-    edgesOf edgeHit hitsFrom inserted sortedInto droppedAfter dropped spanOf spanned crossed crossingWith edgeDirection meanDirection vertexDirection atVertex insideEdge atLengthFrom atLength atLengthAsked crossingAsked joinedAsked
+    edgesOf edgeHit hitsFrom inserted sortedInto droppedAfter dropped spanOf spanned crossed crossingWith edgeDirection meanDirection vertexDirection atVertex insideEdge atLengthFrom atLength atLengthAsked crossingAsked joinedAsked circleEntry tryAsked
     closestOnAll leastOf leastOfAll nearestOf fractionOn heldPoint measuredTo closestOnEdge lineProjection distOf movedEnds halved circleBetween halving halvedFrom fromLine
     camberPoint numbersOf circleFrom circlesFrom allNumbers stored badCircle anyBad midPointOf lineNormalized rayNormalized rayProjection atDistance shiftedRay halfwayRay circleOn tryInscribed judged triedOn trial
     next run whole withRoom afterTrial refineMove measure refineStep tmaxFrom tmax storeEntry tmaxAsked frontAndBack centerDot lessForward dirFwd voteOf votesFrom dirUpper orientEntry fwdAsked upperAsked lastPair middleLine facedLine clipLine endCamberRay
     gapOf capPoint capIntersection aheadOf turnedTo acrossRay probeLine probed movedPoint afterMove afterRefined afterProbe oneRound onward rounds edgeEntry startAtEnd fitStart fitFrom fitReported fitted fitAfter
-rows-hold = (refl, (refl, (refl, (refl, (refl, (refl, (refl, (refl, (refl, (refl, (refl, (refl, tt))))))))))))
+steps-hold = (refl, (refl, (refl, (refl, (refl, (refl, (refl, (refl, (refl, (refl, tt))))))))))
+
+fits-hold : Holds (P11 ∷ P12 ∷ [])
+unfolding P11 P12 halvedTimes R U four two line crossing vector circle unused pairOfU swappedOfU atX onAxis turnedOnAxis edgeOfU numbered fitRan sqrtOf rootOfUnits wholeRoot rootDigits units size span climb odd trailingZeros ofBits ofFields round neg sum add sub mul div lt eq le
+    dotOf normOf difference normalized lineThrough atParam intersectionParam pointsOf plainDist isClosed lengthsFrom lengthsOf wholeLength badNumbers crowded notRising sectionEntry keptAfter kept lastOf endsMeet forcedClosed curveOf cleaned
+    edgesOf edgeHit hitsFrom inserted sortedInto droppedAfter dropped spanOf spanned crossed crossingWith edgeDirection meanDirection vertexDirection atVertex insideEdge atLengthFrom atLength atLengthAsked crossingAsked joinedAsked circleEntry tryAsked
+    closestOnAll leastOf leastOfAll nearestOf fractionOn heldPoint measuredTo closestOnEdge lineProjection distOf movedEnds halved circleBetween halving halvedFrom fromLine
+    camberPoint numbersOf circleFrom circlesFrom allNumbers stored badCircle anyBad midPointOf lineNormalized rayNormalized rayProjection atDistance shiftedRay halfwayRay circleOn tryInscribed judged triedOn trial
+    next run whole withRoom afterTrial refineMove measure refineStep tmaxFrom tmax storeEntry tmaxAsked frontAndBack centerDot lessForward dirFwd voteOf votesFrom dirUpper orientEntry fwdAsked upperAsked lastPair middleLine facedLine clipLine endCamberRay
+    gapOf capPoint capIntersection aheadOf turnedTo acrossRay probeLine probed movedPoint afterMove afterRefined afterProbe oneRound onward rounds edgeEntry startAtEnd fitStart fitFrom fitReported fitted fitAfter
+fits-hold = (refl, (refl, tt))
+
+both-hold : (rs qs : List Row) → Holds rs → Holds qs → Holds (rs ++ qs)
+both-hold [] qs a b = b
+both-hold (row given wanted ∷ rs) qs a b = (a .0, both-hold rs qs (a .1) b)
+
+-- the claim
+rows-hold : Holds table
+unfolding table
+rows-hold = both-hold (P1 ∷ P2 ∷ P3 ∷ P4 ∷ P5 ∷ P6 ∷ P7 ∷ P8 ∷ P9 ∷ P10 ∷ []) (P11 ∷ P12 ∷ []) steps-hold fits-hold

@@ -31,7 +31,7 @@ pub(crate) fn limits(line: &[u8], is_fit: bool, n: &mut [f64], words: &mut [u64]
     script::keep(n);
     again(line, 2, script::NO_LIMIT, n, words);
     plain::keep_plain(n, words);
-    let end = (word_at(words, 5) % 1000) as u32 + 3;
+    let end = (word_at(words, script::TOLD + 2) % 1000) as u32 + 3;
     all_keep(line, is_fit, end, n, words)
 }
 
@@ -39,7 +39,7 @@ fn agree_at(line: &[u8], limit: u32, n: &mut [f64], words: &mut [u64]) -> bool {
     again(line, 2, limit, n, words);
     plain::keep_plain(n, words);
     again(line, 3, limit, n, words);
-    plain::is_plain(n, words)
+    plain::leaves_same(n, words)
 }
 
 fn all_agree(line: &[u8], end: u32, n: &mut [f64], words: &mut [u64]) -> bool {

@@ -11,15 +11,15 @@ line-entry-requires c κs = search needs
 enum-told : tie.Need-enum-told
 enum-told c = search needs
 
-from-crossing-requires : tie.Need-from-crossing-requires
-from-crossing-requires c κs = entered-points _ _ _ _ _ (c .before .before .line-entry .ensures) (c .enum-told .given .1)
+from-line-requires : tie.Need-from-line-requires
+from-line-requires c κs = entered-points _ _ _ _ _ (c .before .before .line-entry .ensures) (c .enum-told .given .1)
 
 enum-known-r : tie.Need-enum-known-r
 enum-known-r c = search needs
 
 returns : tie.Need-returns
 unfolding fromCrossingAsked
-returns c = rw (← (rw (c .before .enum-told .given .1) at (c .before .before .before .line-entry .ensures))) (c .from-crossing .ensures)
+returns c = rw (← (rw (c .before .enum-told .given .1) at (c .before .before .before .line-entry .ensures))) (c .from-line .ensures)
 
 returns-2 : tie.Need-returns-2
 unfolding fromCrossingAsked
@@ -31,7 +31,7 @@ inscribed-from-crossing-spec =
     (tie.spec
     line-entry-requires
     enum-told
-    from-crossing-requires
+    from-line-requires
     enum-known-r
     returns
     returns-2)

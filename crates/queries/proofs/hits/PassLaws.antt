@@ -9,21 +9,22 @@ use Rattle.errors.specs.Answer.{Answer, result, refusal, _>>=_}
 use Rattle.errors.specs.declared.Refusal.{Refusal}
 use Rattle.errors.proofs.Laws.{bind-assoc}
 use Rattle.line2.specs.declared.Line2.{Line2}
-use Rattle.queries.specs.Hits.{sectionEdges, Hit, edgeHit, joinedTo, hitsFrom}
+use Rattle.queries.specs.Hits.{sectionEdges, hit, edgeHit, joinedTo, hitsFrom}
+use Rattle.queries.specs.declared.Hit.{Hit}
 use Rattle.queries.specs.Code.{edgeAt, listedHit}
 use Rattle.queries.specs.declared.hits.HitAnswer.{HitAnswer}
 use Rattle.queries.proofs.hits.EdgeLaws.{edges-step, edges-end, next-edge}
 
 -- what was gathered, and then these
-unfoldable pub gathered : {S : Type 0} → (S → Float → S) → S → List Hit → S
+unfoldable pub gathered : {S : Type 0} → (S → Hit → S) → S → List Hit → S
 gathered add s [] = s
-gathered add s (h ∷ hs) = gathered add (add s (h .t)) hs
+gathered add s (h ∷ hs) = gathered add (add s h) hs
 
 -- and then the hits of the edges from the one at i on
-abbrev pub passLeft : {S : Type 0} → (S → Float → S) → List Float → Line2 → ℕ → S → Answer S
+abbrev pub passLeft : {S : Type 0} → (S → Hit → S) → List Float → Line2 → ℕ → S → Answer S
 passLeft add ns l i s = hitsFrom l (i / 2) (sectionEdges (drop i ns)) >>= λ hs. result (gathered add s hs)
 
-module _ {S : Type 0} (add : S → Float → S) (ns : List Float) (l : Line2) (i : ℕ) (s : S) (whole : Answer S) (inv : passLeft add ns l i s ≡ whole) where
+module _ {S : Type 0} (add : S → Hit → S) (ns : List Float) (l : Line2) (i : ℕ) (s : S) (whole : Answer S) (inv : passLeft add ns l i s ≡ whole) where
   module _ (fits : i + 3 < length ns) (r : HitAnswer) (is : listedHit r ≡ edgeHit l (edgeAt ns i)) where
     abbrev rest : Answer (List Hit)
     rest = hitsFrom l (suc (i / 2)) (sectionEdges (drop (i + 2) ns))
@@ -36,7 +37,7 @@ module _ {S : Type 0} (add : S → Float → S) (ns : List Float) (l : Line2) (i
     unfolding hitsFrom
     pass-missed e = rw (next-edge i) (sym (bind-assoc rest (λ hs. result (joinedTo (i / 2) none hs)) (λ hs. result (gathered add s hs))) ∙ (rw (edges-step ns i fits, ← (rw e at is)) at inv))
 
-    pub pass-hit : (t : Float) → r ≡ HitAnswer.At t → passLeft add ns l (i + 2) (add s t) ≡ whole
+    pub pass-hit : (t : Float) → r ≡ HitAnswer.At t → passLeft add ns l (i + 2) (add s (hit t (i / 2))) ≡ whole
     unfolding hitsFrom gathered
     pass-hit t e = rw (next-edge i) (sym (bind-assoc rest (λ hs. result (joinedTo (i / 2) (some t) hs)) (λ hs. result (gathered add s hs))) ∙ (rw (edges-step ns i fits, ← (rw e at is)) at inv))
 

@@ -4,7 +4,8 @@ use mathlib.Core.List.{List, [], _∷_}
 use lib.Ieee.{Float}
 use Rattle.errors.specs.Answer.{Answer, result, refusal, _>>=_}
 use Rattle.line2.specs.declared.Line2.{Line2}
-use Rattle.queries.specs.Hits.{sectionEdges, Hit, hitsFrom}
+use Rattle.queries.specs.Hits.{sectionEdges, hitsFrom}
+use Rattle.queries.specs.declared.Hit.{Hit}
 use Rattle.queries.specs.Code.{addedTo, seenOf, seenHits}
 use Rattle.queries.specs.declared.hits.Seen.{Seen}
 use Rattle.queries.proofs.hits.PassLaws.{gathered, passLeft}

@@ -1,4 +1,4 @@
--- The joined crossing: fractions put in their places in an array, and those near the last kept one dropped. Assumes nothing.
+-- The joined crossing: hits put in their places in two arrays, and those near the last kept one dropped. Assumes nothing.
 use mathlib.Core.Path.{_≡_, refl, sym, ap, _∙_}
 use mathlib.Core.Bool.{Bool, true, false, cond}
 use mathlib.Core.List.{List, [], _∷_, _++_}
@@ -11,11 +11,11 @@ use lib.ListN.{length, getD, take, drop, set, length-append, length-drop, take-a
 use lib.Seq.{drop-cons, take-suc, length-take-le, take-at, drop-at, getD-at, take-append-add, getD-append-add, getD-take, getD-drop, take-add, set-at, append-snoc}
 use lib.Ieee.{Float, nan, lt}
 use Rattle.errors.specs.Answer.{Answer, result, refusal, _>>=_}
-use Rattle.points.specs.Numbers.{_-f_, isWithin}
 use Rattle.line2.specs.declared.Line2.{Line2}
-use Rattle.queries.specs.Hits.{sectionEdges, Hit, hitsFrom, inserted, sortedInto, sorted, small, nearby, droppedAfter, dropped}
-use Rattle.queries.specs.Code.{addedTo, seenOf, fractions, placeOf, insertedFraction, sortedFractions, seenAfter, seenKept}
-use Rattle.queries.specs.Crossing.{Span, spanOf, crossed, crossingWith, joinedCrossingOf}
+use Rattle.queries.specs.Hits.{sectionEdges, hit, hitsFrom, inserted, sortedInto, sorted, nearby, droppedAfter, dropped}
+use Rattle.queries.specs.declared.Hit.{Hit}
+use Rattle.queries.specs.Code.{addedTo, seenOf, placeOf, paired, firstHits, sortedHits}
+use Rattle.queries.specs.Crossing.{Span, span, spanOf, crossed, crossingWith, joinedCrossingOf}
 use Rattle.queries.specs.declared.hits.Seen.{Seen}
 use Rattle.queries.proofs.hits.PassLaws.{gathered, passLeft}
 use Rattle.queries.proofs.hits.SeenLaws.{after-nothing}
@@ -52,155 +52,165 @@ place-le t (g ∷ gs) = go (lt t g) (place-le t gs)
 pub place-within : (t : Float) (ts : List Float) (n : ℕ) → n ≤ length ts → placeOf t (take n ts) ≤ n
 place-within t ts n h = omega (arith, place-le t (take n ts), length-take-le n ts h)
 
--- ---- the rest moved up by one: `spread ts j t` has t at j, and from there on each number one place later
+-- ---- the rest moved up by one: `spread xs j x` has x at j, and from there on each one place later
 
-abbrev pub spread : List Float → ℕ → Float → List Float
-spread ts j t = take j ts ++ t ∷ drop j ts
+abbrev pub spread : {A : Type 0} → List A → ℕ → A → List A
+spread xs j x = take j xs ++ x ∷ drop j xs
 
-inserted-spread : (t : Float) (gs : List Float) → insertedFraction t gs ≡ spread gs (placeOf t gs) t
-unfolding insertedFraction placeOf
-inserted-spread t [] = refl
-inserted-spread t (g ∷ gs) = go (lt t g) (inserted-spread t gs)
-  where
-    go : (b : Bool) → insertedFraction t gs ≡ spread gs (placeOf t gs) t → cond b (t ∷ (g ∷ gs)) (g ∷ insertedFraction t gs) ≡ spread (g ∷ gs) (cond b zero (suc (placeOf t gs))) t
-    go true ih = refl
-    go false ih = ap (λ (x : List Float). g ∷ x) ih
+module _ {A : Type 0} (xs : List A) (j : ℕ) (x : A) (room : j ≤ length xs) where
+  pub spread-start : xs ≡ take j (spread xs j x) ++ drop j xs
+  spread-start = sym (rw (take-at (take j xs) (x ∷ drop j xs) j (length-take-le j xs room)) (take-append-drop j xs))
 
-module _ (ts : List Float) (j : ℕ) (t : Float) (room : j ≤ length ts) where
-  pub spread-start : ts ≡ take j (spread ts j t) ++ drop j ts
-  spread-start = sym (rw (take-at (take j ts) (t ∷ drop j ts) j (length-take-le j ts room)) (take-append-drop j ts))
-
-  pub spread-at : t ≡ getD (spread ts j t) j nan
-  spread-at = sym (getD-at (take j ts) t (drop j ts) nan j (length-take-le j ts room))
+  pub spread-at : (d : A) → x ≡ getD (spread xs j x) j d
+  spread-at d = sym (getD-at (take j xs) x (drop j xs) d j (length-take-le j xs room))
 
   -- the first n + 1 of it, for n from j on
-  spread-take : (n : ℕ) → j ≤ n → n ≤ length ts → spread (take n ts) j t ≡ take (n + 1) (spread ts j t)
+  pub spread-take : (n : ℕ) → j ≤ n → n ≤ length xs → take (n + 1) (spread xs j x) ≡ spread (take n xs) j x
   spread-take n h k =
       let m = n - j in
       let e : n ≡ j + m = omega arith in
       let f : n + 1 ≡ j + suc m = omega arith in
-      let split : take n ts ≡ take j ts ++ take m (drop j ts) = ap (λ (x : ℕ). take x ts) e ∙ take-add j m ts in
-      let front : take j (take n ts) ≡ take j ts = rw split (take-at (take j ts) (take m (drop j ts)) j (length-take-le j ts room)) in
-      let back : drop j (take n ts) ≡ take m (drop j ts) = rw split (drop-at (take j ts) (take m (drop j ts)) j (length-take-le j ts room)) in
-      let whole : take (j + suc m) (take j ts ++ t ∷ drop j ts) ≡ take j ts ++ t ∷ take m (drop j ts) =
-      ap (λ (x : ℕ). take (x + suc m) (take j ts ++ t ∷ drop j ts)) (sym (length-take-le j ts room)) ∙ take-append-add (take j ts) (t ∷ drop j ts) (suc m) in
-      rw (front, back) (sym (ap (λ (x : ℕ). take x (spread ts j t)) f ∙ whole))
+      let split : take n xs ≡ take j xs ++ take m (drop j xs) = ap (λ (i : ℕ). take i xs) e ∙ take-add j m xs in
+      let front : take j (take n xs) ≡ take j xs = rw split (take-at (take j xs) (take m (drop j xs)) j (length-take-le j xs room)) in
+      let back : drop j (take n xs) ≡ take m (drop j xs) = rw split (drop-at (take j xs) (take m (drop j xs)) j (length-take-le j xs room)) in
+      let whole : take (j + suc m) (take j xs ++ x ∷ drop j xs) ≡ take j xs ++ x ∷ take m (drop j xs) =
+      ap (λ (i : ℕ). take (i + suc m) (take j xs ++ x ∷ drop j xs)) (sym (length-take-le j xs room)) ∙ take-append-add (take j xs) (x ∷ drop j xs) (suc m) in
+      rw (front, back) (ap (λ (i : ℕ). take i (spread xs j x)) f ∙ whole)
 
-module _ (ts : List Float) (j : ℕ) (t : Float) (k : ℕ) (from : j ≤ k) (fits : k < length ts) where
+module _ {A : Type 0} (d : A) (xs : List A) (j : ℕ) (x : A) (k : ℕ) (from : j ≤ k) (fits : k < length xs) where
   -- what stood at k stands one place later
-  later : getD (spread ts j t) (k + 1) nan ≡ getD ts k nan
+  later : getD (spread xs j x) (k + 1) d ≡ getD xs k d
   later =
       let m = k - j in
-      let e : k + 1 ≡ length (take j ts) + suc m = omega (arith, length-take-le j ts (omega arith)) in
-      rw e (getD-append-add (take j ts) (t ∷ drop j ts) (suc m) nan ∙ getD-drop j ts m nan ∙ ap (λ (x : ℕ). getD ts x nan) (omega arith))
+      let e : k + 1 ≡ length (take j xs) + suc m = omega (arith, length-take-le j xs (omega arith)) in
+      rw e (getD-append-add (take j xs) (x ∷ drop j xs) (suc m) d ∙ getD-drop j xs m d ∙ ap (λ (i : ℕ). getD xs i d) (omega arith))
 
-  long : length (spread ts j t) ≡ suc (length ts)
-  long = omega (arith, length-append (take j ts) (t ∷ drop j ts), length-take-le j ts (omega arith), length-drop j ts)
+  long : length (spread xs j x) ≡ suc (length xs)
+  long = omega (arith, length-append (take j xs) (x ∷ drop j xs), length-take-le j xs (omega arith), length-drop j xs)
 
-  abbrev front : List Float
-  front = take k (spread ts j t)
+  abbrev front : List A
+  front = take k (spread xs j x)
 
   front-long : length front ≡ k
-  front-long = length-take-le k (spread ts j t) (omega (arith, long))
+  front-long = length-take-le k (spread xs j x) (omega (arith, long))
 
-  pub spread-next : getD (front ++ drop k ts) k nan ≡ getD (spread ts j t) (k + 1) nan
-  spread-next = rw (drop-cons ts k nan fits) (getD-at front (getD ts k nan) (drop (suc k) ts) nan k front-long ∙ sym later)
+  pub spread-next : getD (front ++ drop k xs) k d ≡ getD (spread xs j x) (k + 1) d
+  spread-next = rw (drop-cons xs k d fits) (getD-at front (getD xs k d) (drop (suc k) xs) d k front-long ∙ sym later)
 
-  pub spread-set : set (front ++ drop k ts) k (getD (spread ts j t) k nan) ≡ take (k + 1) (spread ts j t) ++ drop (k + 1) ts
+  pub spread-set : set (front ++ drop k xs) k (getD (spread xs j x) k d) ≡ take (k + 1) (spread xs j x) ++ drop (k + 1) xs
   spread-set =
-      rw (drop-cons ts k nan fits, add-one k)
-      (set-at front (getD ts k nan) (drop (suc k) ts) (getD (spread ts j t) k nan) k front-long
-      ∙ rw (take-suc (spread ts j t) k nan (omega (arith, long))) (sym (append-snoc front (getD (spread ts j t) k nan) (drop (suc k) ts))))
+      rw (drop-cons xs k d fits, add-one k)
+      (set-at front (getD xs k d) (drop (suc k) xs) (getD (spread xs j x) k d) k front-long
+      ∙ rw (take-suc (spread xs j x) k d (omega (arith, long))) (sym (append-snoc front (getD (spread xs j x) k d) (drop (suc k) xs))))
 
-pub spread-end : (ts : List Float) (n : ℕ) (t : Float) (j : ℕ) → n < length ts → j ≡ placeOf t (take n ts) → take (n + 1) (spread ts j t) ≡ insertedFraction t (take n ts)
-spread-end ts n t j h e =
-    let w : j ≤ n = omega (arith, place-within t ts n (omega arith)) in
-    sym (inserted-spread t (take n ts) ∙ ap (λ (x : ℕ). spread (take n ts) x t) (sym e) ∙ spread-take ts j t (omega arith) n w (omega arith))
+-- the first n + 1 of what is left after all was moved
+pub spread-first : {A : Type 0} (xs : List A) (j : ℕ) (x : A) (n : ℕ) → j ≤ n → n < length xs
+    → take (n + 1) (take (n + 1) (spread xs j x) ++ drop (n + 1) xs) ≡ spread (take n xs) j x
+spread-first xs j x n h k =
+    let whole : length (spread xs j x) ≡ suc (length xs) = omega (arith, length-append (take j xs) (x ∷ drop j xs), length-take-le j xs (omega arith), length-drop j xs) in
+    take-at (take (n + 1) (spread xs j x)) (drop (n + 1) xs) (n + 1) (length-take-le (n + 1) (spread xs j x) (omega (arith, whole))) ∙ spread-take xs j x (omega arith) n h (omega arith)
 
-length-insertedFraction : (t : Float) (gs : List Float) → length (insertedFraction t gs) ≡ suc (length gs)
-unfolding insertedFraction
-length-insertedFraction t [] = refl
-length-insertedFraction t (g ∷ gs) = go (lt t g) (length-insertedFraction t gs)
+-- ---- hits in two arrays
+
+pub inserted-paired : (t : Float) (e : ℕ) (ts : List Float) (es : List ℕ) → length ts ≡ length es
+    → paired (spread ts (placeOf t ts) t) (spread es (placeOf t ts) e) ≡ inserted (hit t e) (paired ts es)
+unfolding placeOf paired inserted
+inserted-paired t e [] [] h = refl
+inserted-paired t e [] (k ∷ es) h = absurd (omega (arith, h))
+inserted-paired t e (g ∷ ts) [] h = absurd (omega (arith, h))
+inserted-paired t e (g ∷ ts) (k ∷ es) h = go (lt t g) (inserted-paired t e ts es (omega (arith, h)))
   where
-    go : (b : Bool) → length (insertedFraction t gs) ≡ suc (length gs) → length (cond b (t ∷ (g ∷ gs)) (g ∷ insertedFraction t gs)) ≡ suc (suc (length gs))
+    go : (b : Bool) → paired (spread ts (placeOf t ts) t) (spread es (placeOf t ts) e) ≡ inserted (hit t e) (paired ts es)
+        → paired (spread (g ∷ ts) (cond b zero (suc (placeOf t ts))) t) (spread (k ∷ es) (cond b zero (suc (placeOf t ts))) e) ≡ cond b (hit t e ∷ (hit g k ∷ paired ts es)) (hit g k ∷ inserted (hit t e) (paired ts es))
     go true ih = refl
-    go false ih = ap suc ih
+    go false ih = ap (λ (x : List Hit). hit g k ∷ x) ih
 
--- the first n + 1 after an insertion
-pub first-inserted : (ts rest : List Float) (n : ℕ) (t : Float) → n ≤ length ts → take (n + 1) (insertedFraction t (take n ts) ++ rest) ≡ insertedFraction t (take n ts)
-first-inserted ts rest n t h = take-at (insertedFraction t (take n ts)) rest (n + 1) (omega (arith, length-insertedFraction t (take n ts), length-take-le n ts h))
+pub insert-ends : (ts : List Float) (es : List ℕ) (n : ℕ) (t : Float) (e : ℕ) (j : ℕ) → n < length ts → n < length es → j ≡ placeOf t (take n ts)
+    → firstHits (n + 1) (take (n + 1) (spread ts j t) ++ drop (n + 1) ts) (take (n + 1) (spread es j e) ++ drop (n + 1) es) ≡ inserted (hit t e) (firstHits n ts es)
+insert-ends ts es n t e j h k p =
+    let w : j ≤ n = omega (arith, p, place-within t ts n (omega arith)) in
+    rw (spread-first ts j t n w h, spread-first es j e n w k, p) (inserted-paired t e (take n ts) (take n es) (length-take-le n ts (omega arith) ∙ sym (length-take-le n es (omega arith))))
 
--- ---- fractions of sorted hits
+length-paired : (ts : List Float) (es : List ℕ) → length ts ≡ length es → length (paired ts es) ≡ length ts
+unfolding paired
+length-paired [] es h = refl
+length-paired (t ∷ ts) [] h = absurd (omega (arith, h))
+length-paired (t ∷ ts) (e ∷ es) h = ap suc (length-paired ts es (omega (arith, h)))
 
-abbrev pub insertInto : List Float → Float → List Float
-insertInto gs t = insertedFraction t gs
+getD-paired : (ts : List Float) (es : List ℕ) (k : ℕ) → length ts ≡ length es → getD (paired ts es) k (hit nan 0) ≡ hit (getD ts k nan) (getD es k 0)
+unfolding paired
+getD-paired [] [] k h = refl
+getD-paired [] (e ∷ es) k h = absurd (omega (arith, h))
+getD-paired (t ∷ ts) [] k h = absurd (omega (arith, h))
+getD-paired (t ∷ ts) (e ∷ es) zero h = refl
+getD-paired (t ∷ ts) (e ∷ es) (suc k) h = getD-paired ts es k (omega (arith, h))
 
-fractions-inserted : (h : Hit) (gs : List Hit) → fractions (inserted h gs) ≡ insertedFraction (h .t) (fractions gs)
-unfolding inserted insertedFraction
-fractions-inserted h [] = refl
-fractions-inserted h (g ∷ gs) = go (lt (h .t) (g .t)) (fractions-inserted h gs)
-  where
-    go : (b : Bool) → fractions (inserted h gs) ≡ insertedFraction (h .t) (fractions gs)
-        → fractions (cond b (h ∷ (g ∷ gs)) (g ∷ inserted h gs)) ≡ cond b (h .t ∷ (g .t ∷ fractions gs)) (g .t ∷ insertedFraction (h .t) (fractions gs))
-    go true ih = refl
-    go false ih = ap (λ (x : List Float). g .t ∷ x) ih
+-- ---- sorted hits
 
-fractions-sorted : (gs hs : List Hit) → gathered insertInto (fractions gs) hs ≡ fractions (sortedInto gs hs)
+abbrev pub insertInto : List Hit → Hit → List Hit
+insertInto gs h = inserted h gs
+
+sorted-gathered : (gs hs : List Hit) → gathered insertInto gs hs ≡ sortedInto gs hs
 unfolding gathered sortedInto
-fractions-sorted gs [] = refl
-fractions-sorted gs (h ∷ hs) = ap (λ (x : List Float). gathered insertInto x hs) (sym (fractions-inserted h gs)) ∙ fractions-sorted (inserted h gs) hs
+sorted-gathered gs [] = refl
+sorted-gathered gs (h ∷ hs) = sorted-gathered (inserted h gs) hs
 
-pub sorted-start : (ns : List Float) (l : Line2) → passLeft insertInto ns l 0 [] ≡ sortedFractions ns l
-sorted-start ns l = go (hitsFrom l 0 (sectionEdges ns))
+pub sorted-start : (ns : List Float) (l : Line2) (ts : List Float) (es : List ℕ) → passLeft insertInto ns l 0 (firstHits 0 ts es) ≡ sortedHits ns l
+unfolding paired
+sorted-start ns l ts es = go (hitsFrom l 0 (sectionEdges ns))
   where
-    go : (a : Answer (List Hit)) → (a >>= λ hs. result (gathered insertInto [] hs)) ≡ (a >>= λ hs. result (fractions (sorted hs)))
-    go (result hs) = rw (fractions-sorted [] hs)
+    go : (a : Answer (List Hit)) → (a >>= λ hs. result (gathered insertInto [] hs)) ≡ (a >>= λ hs. result (sorted hs))
+    go (result hs) = rw (sorted-gathered [] hs)
     go (refusal n) = refl
 
 -- ---- those kept
 
-module _ (ts : List Float) (n : ℕ) (k : ℕ) (last : Float) (seen : Seen) (whole : Seen) (inv : seenAfter seen last (drop k (take n ts)) ≡ whole) (room : n ≤ length ts) where
-  step : k < n → drop k (take n ts) ≡ getD ts k nan ∷ drop (k + 1) (take n ts)
-  step h = rw (add-one k) (drop-cons (take n ts) k nan (simp length-take-le (omega arith)) ∙ ap (λ (x : Float). x ∷ drop (suc k) (take n ts)) (getD-take n ts k nan h))
+-- what is seen, and then what is kept of those from k on
+abbrev pub keptLeft : List Hit → ℕ → Hit → Seen → Seen
+keptLeft hs k last seen = gathered addedTo seen (droppedAfter nearby last (drop k hs))
 
-  pub kept-dropped : k < n → isWithin small (getD ts k nan -f last) ≡ true → seenAfter seen last (drop (k + 1) (take n ts)) ≡ whole
-  unfolding seenAfter
-  kept-dropped h p = rw (step h, p) at inv
+module _ (ts : List Float) (es : List ℕ) (n : ℕ) (room : n ≤ length ts) (roomEdges : n ≤ length es) where
+  abbrev hs : List Hit
+  hs = firstHits n ts es
 
-  pub kept-more : k < n → isWithin small (getD ts k nan -f last) ≡ false → seenAfter (addedTo seen (getD ts k nan)) (getD ts k nan) (drop (k + 1) (take n ts)) ≡ whole
-  unfolding seenAfter
-  kept-more h p = rw (step h, p) at inv
+  same : length (take n ts) ≡ length (take n es)
+  same = length-take-le n ts room ∙ sym (length-take-le n es roomEdges)
 
-  pub kept-end : n ≤ k → seen ≡ whole
-  unfolding seenAfter
-  kept-end h =
-      let short : length (take n ts) ≤ k = rw (length-take-le n ts room) h in
-      rw (drop-of-length-le (take n ts) short) at inv
+  long-hs : length hs ≡ n
+  long-hs = length-paired (take n ts) (take n es) same ∙ length-take-le n ts room
 
-pub kept-start : (ts : List Float) (n : ℕ) → 0 < n → n ≤ length ts → seenAfter (Seen.One (getD ts 0 nan)) (getD ts 0 nan) (drop 1 (take n ts)) ≡ seenKept (take n ts)
-unfolding seenKept
-kept-start ts n h room = sym (rw (drop-cons (take n ts) 0 nan (simp length-take-le (omega arith)), getD-take n ts 0 nan h))
+  step : (k : ℕ) → k < n → drop k hs ≡ hit (getD ts k nan) (getD es k 0) ∷ drop (k + 1) hs
+  step k h =
+      let e : getD hs k (hit nan 0) ≡ hit (getD ts k nan) (getD es k 0) = getD-paired (take n ts) (take n es) k same ∙ rw (getD-take n ts k nan h, getD-take n es k 0 h) in
+      rw (add-one k) (drop-cons hs k (hit nan 0) (omega (arith, long-hs)) ∙ ap (λ (x : Hit). x ∷ drop (suc k) hs) e)
 
-kept-gathered : (s : Seen) (g : Hit) (hs : List Hit) → seenAfter s (g .t) (fractions hs) ≡ gathered addedTo s (droppedAfter nearby g hs)
-unfolding seenAfter gathered droppedAfter
-kept-gathered s g [] = refl
-kept-gathered s g (h ∷ hs) = go (nearby g h) (kept-gathered s g hs) (kept-gathered (addedTo s (h .t)) h hs)
-  where
-    go : (b : Bool) → seenAfter s (g .t) (fractions hs) ≡ gathered addedTo s (droppedAfter nearby g hs) → seenAfter (addedTo s (h .t)) (h .t) (fractions hs) ≡ gathered addedTo (addedTo s (h .t)) (droppedAfter nearby h hs)
-        → cond b (seenAfter s (g .t) (fractions hs)) (seenAfter (addedTo s (h .t)) (h .t) (fractions hs)) ≡ gathered addedTo s (cond b (droppedAfter nearby g hs) (h ∷ droppedAfter nearby h hs))
-    go true p q = p
-    go false p q = q
+  module _ (k : ℕ) (last : Hit) (seen whole : Seen) (inv : keptLeft hs k last seen ≡ whole) (h : Hit) (is : h ≡ hit (getD ts k nan) (getD es k 0)) where
+    pub kept-dropped : k < n → nearby last h ≡ true → keptLeft hs (k + 1) last seen ≡ whole
+    unfolding droppedAfter
+    kept-dropped b p = let e : drop k hs ≡ h ∷ drop (k + 1) hs = rw is (step k b) in rw (e, p) at inv
 
-kept-seen : (gs : List Hit) → seenKept (fractions gs) ≡ seenOf (dropped nearby gs)
-unfolding seenKept dropped
-kept-seen [] = unfold seenOf in refl
-kept-seen (g ∷ gs) = kept-gathered (Seen.One (g .t)) g gs ∙ (unfold gathered addedTo in after-nothing (g ∷ droppedAfter nearby g gs))
+    pub kept-more : k < n → nearby last h ≡ false → keptLeft hs (k + 1) h (addedTo seen h) ≡ whole
+    unfolding droppedAfter gathered
+    kept-more b p = let e : drop k hs ≡ h ∷ drop (k + 1) hs = rw is (step k b) in rw (e, p) at inv
+
+  pub kept-end : (k : ℕ) (last : Hit) (seen whole : Seen) → keptLeft hs k last seen ≡ whole → n ≤ k → seen ≡ whole
+  unfolding droppedAfter gathered
+  kept-end k last seen whole inv h =
+      let short : length hs ≤ k = omega (arith, long-hs) in
+      rw (drop-of-length-le hs short) at inv
+
+  pub kept-start : 0 < n → (h : Hit) → h ≡ hit (getD ts 0 nan) (getD es 0 0) → keptLeft hs 1 h (Seen.One h) ≡ seenOf (dropped nearby hs)
+  unfolding dropped
+  kept-start b h is =
+      let e : hs ≡ h ∷ drop 1 hs = rw is (step 0 b) in
+      let f : keptLeft hs 1 h (Seen.One h) ≡ seenOf (h ∷ droppedAfter nearby h (drop 1 hs)) = unfold gathered addedTo in after-nothing (h ∷ droppedAfter nearby h (drop 1 hs)) in
+      f ∙ sym (ap (λ (x : List Hit). seenOf (dropped nearby x)) e)
 
 -- two in order are a span
 abbrev pub spanKept : Seen → Option Span
 spanKept Seen.Nothing = none
-spanKept (Seen.One s) = none
-spanKept (Seen.Pair s t) = some (record { t0 = s; t1 = t })
+spanKept (Seen.One g) = none
+spanKept (Seen.Pair g h) = some (span g h)
 spanKept Seen.Many = none
 
 span-kept : (hs : List Hit) → spanOf hs ≡ spanKept (seenOf hs)
@@ -210,10 +220,10 @@ span-kept (g ∷ []) = refl
 span-kept (g ∷ (h ∷ [])) = refl
 span-kept (g ∷ (h ∷ (k ∷ hs))) = refl
 
-pub joined-kept : (ns : List Float) (l : Line2) → (sortedFractions ns l >>= λ ts. crossed l (spanKept (seenKept ts))) ≡ joinedCrossingOf ns l
+pub joined-kept : (ns : List Float) (l : Line2) → (sortedHits ns l >>= λ hs. crossed l (spanKept (seenOf (dropped nearby hs)))) ≡ joinedCrossingOf ns l
 unfolding crossingWith
 joined-kept ns l = go (hitsFrom l 0 (sectionEdges ns))
   where
-    go : (a : Answer (List Hit)) → ((a >>= λ hs. result (fractions (sorted hs))) >>= λ ts. crossed l (spanKept (seenKept ts))) ≡ (a >>= λ hs. crossed l (spanOf (dropped nearby (sorted hs))))
+    go : (a : Answer (List Hit)) → ((a >>= λ hs. result (sorted hs)) >>= λ hs. crossed l (spanKept (seenOf (dropped nearby hs)))) ≡ (a >>= λ hs. crossed l (spanOf (dropped nearby (sorted hs))))
     go (refusal n) = refl
-    go (result hs) = rw (kept-seen (sorted hs), span-kept (dropped nearby (sorted hs)))
+    go (result hs) = rw (span-kept (dropped nearby (sorted hs)))

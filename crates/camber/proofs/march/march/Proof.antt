@@ -1,10 +1,8 @@
--- `march` makes the entry tests, finds its first circle, and then marches. Assumes nothing.
+-- `march` makes the entry tests, finds the crossing of its line, and then marches from it. Assumes nothing.
 use borrow.Author.Needs.{needs}
-use mathlib.Core.Path.{ap}
-use native.Mathlib.Omega.{arith}
-use Rattle.refine.specs.Report.{ran}
 use Rattle.circles.proofs.Laws.{entered-points}
-use Rattle.camber.specs.March.{marchAfter}
+use Rattle.halving.specs.Halving.{inscribedOn}
+use Rattle.camber.specs.March.{afterStart, marchAfter, foundEdges}
 use Rattle.camber.proofs.march.march.Statement.{statement}
 use Rattle.camber.proofs.march.march.Tie as tie
 
@@ -14,17 +12,17 @@ line-entry-requires c κs = search needs
 enum-told : tie.Need-enum-told
 enum-told c = search needs
 
-inscribed-on-requires : tie.Need-inscribed-on-requires
-inscribed-on-requires c κs = entered-points _ _ _ _ _ (c .before .before .line-entry .ensures) (c .enum-told .given .1)
+crossing-line-requires : tie.Need-crossing-line-requires
+crossing-line-requires c κs = entered-points _ _ _ _ _ (c .before .before .line-entry .ensures) (c .enum-told .given .1)
 
-enum-known-c : tie.Need-enum-known-c
-enum-known-c c = search needs
+asked-requires : tie.Need-asked-requires
+asked-requires c κs = search needs
 
-slots-in-requires : tie.Need-slots-in-requires
-slots-in-requires c κs = search needs
+enum-known-x : tie.Need-enum-known-x
+enum-known-x c = search needs
 
-march-from-requires : tie.Need-march-from-requires
-march-from-requires c κs = (entered-points _ _ _ _ _ (c .before .before .before .before .before .before .before .before .line-entry .ensures) (c .before .before .before .before .before .before .enum-told .given .1), (omega (arith, c .before .slots-in .ensures), omega arith))
+march-on-requires : tie.Need-march-on-requires
+march-on-requires c κs = entered-points _ _ _ _ _ (c .before .before .before .before .before .before .before .before .before .line-entry .ensures) (c .before .before .before .before .before .before .before .enum-told .given .1)
 
 enum-known-r : tie.Need-enum-known-r
 enum-known-r c = search needs
@@ -39,15 +37,15 @@ same-length : tie.Need-same-length
 same-length c = search needs
 
 returns : tie.Need-returns
-unfolding marchAfter
-returns c = rw (← (rw (c .before .before .before .before .before .before .before .before .before .enum-told .given .1) at (c .before .before .before .before .before .before .before .before .before .before .before .line-entry .ensures)), ← (rw (c .before .before .before .before .before .before .c .given .1) at (c .before .before .before .before .before .before .before .before .inscribed-on .ensures)), ← (c .before .before .before .before .slots-in .ensures)) (ap ran (c .before .before .march-from .ensures))
+unfolding marchAfter inscribedOn foundEdges
+returns c = rw (← (rw (c .before .before .before .before .before .before .before .before .before .before .enum-told .given .1) at (c .before .before .before .before .before .before .before .before .before .before .before .before .line-entry .ensures)), ← (c .before .before .before .before .before .before .before .before .before .crossing-line .ensures), ← (rw (c .before .before .before .before .before .before .x .given .1) at (c .before .before .before .before .before .before .before .before .asked .ensures)), ← (c .before .before .march-on .ensures _ _))
 
 returns-2 : tie.Need-returns-2
-unfolding marchAfter
-returns-2 c = rw (← (rw (c .before .before .before .before .before .enum-told .given .1) at (c .before .before .before .before .before .before .before .line-entry .ensures)), ← (rw (c .before .before .r .given .1) at (c .before .before .before .before .inscribed-on .ensures)), c .refused .ensures)
+unfolding marchAfter afterStart inscribedOn foundEdges
+returns-2 c = rw (← (rw (c .before .before .before .before .before .before .enum-told .given .1) at (c .before .before .before .before .before .before .before .before .line-entry .ensures)), ← (c .before .before .before .before .before .crossing-line .ensures), ← (rw (c .before .before .r .given .1) at (c .before .before .before .before .asked .ensures)), c .refused .ensures)
 
 returns-3 : tie.Need-returns-3
-unfolding marchAfter
+unfolding marchAfter foundEdges
 returns-3 c = rw (← (rw (c .before .r2 .given .1) at (c .before .before .before .line-entry .ensures)))
 
 pub march-spec : {M : Type 1} → statement M
@@ -56,10 +54,10 @@ march-spec =
     (tie.spec
     line-entry-requires
     enum-told
-    inscribed-on-requires
-    enum-known-c
-    slots-in-requires
-    march-from-requires
+    crossing-line-requires
+    asked-requires
+    enum-known-x
+    march-on-requires
     enum-known-r
     refused-requires
     enum-known-r-2

@@ -18,7 +18,7 @@ spanned-requires : tie.Need-spanned-requires
 spanned-requires c κs = search needs
 
 returns : tie.Need-returns
-returns c = rw (← (crossing-seen _ _), ← (rw (c .before .before .before .before .before .before .seen .given .1) at (c .before .before .before .before .before .before .before .before .seen-hits .ensures)), c .before .before .before .seen2 .given .1, c .before .if1 .taken) (c .spanned .ensures)
+returns c = rw (← (crossing-seen _ _), ← (rw (c .before .before .before .before .before .before .before .before .seen .given .1) at (c .before .before .before .before .before .before .before .before .before .before .seen-hits .ensures)), c .before .before .before .before .before .seen2 .given .1, c .before .if1 .taken) (c .spanned .ensures)
 
 spanned-requires-2 : tie.Need-spanned-requires-2
 spanned-requires-2 c κs = search needs
@@ -36,7 +36,7 @@ enum-known-r : tie.Need-enum-known-r
 enum-known-r c = search needs
 
 returns-2 : tie.Need-returns-2
-returns-2 c = rw (← (crossing-seen _ _), ← (rw (c .before .before .before .before .before .before .seen .given .1) at (c .before .before .before .before .before .before .before .before .seen-hits .ensures)), c .before .before .before .seen2 .given .1, c .before .if1 .left) (c .spanned2 .ensures)
+returns-2 c = rw (← (crossing-seen _ _), ← (rw (c .before .before .before .before .before .before .before .before .seen .given .1) at (c .before .before .before .before .before .before .before .before .before .before .seen-hits .ensures)), c .before .before .before .before .before .seen2 .given .1, c .before .if1 .left) (c .spanned2 .ensures)
 
 returns-3 : tie.Need-returns-3
 unfolding crossed

@@ -1,4 +1,4 @@
--- `joined_crossing` sorts the hits' fractions, drops those near the last kept one, and asks for two. Assumes nothing.
+-- `joined_crossing` sorts the hits, drops those near the last kept one, and asks for two. Assumes nothing.
 use borrow.Author.Needs.{needs}
 use native.Mathlib.Omega.{arith}
 use Rattle.queries.proofs.joined.Laws.{joined-kept}
@@ -9,6 +9,9 @@ use Rattle.queries.proofs.checked.joined_crossing.Tie as tie
 slice-aggregate-sorted-hits : tie.Need-slice-aggregate-sorted-hits
 slice-aggregate-sorted-hits c = search needs
 
+slice-aggregate-sorted-hits-2 : tie.Need-slice-aggregate-sorted-hits-2
+slice-aggregate-sorted-hits-2 c = search needs
+
 sorted-hits-requires : tie.Need-sorted-hits-requires
 sorted-hits-requires c κs = search needs
 
@@ -18,11 +21,16 @@ enum-known-n c = search needs
 slice-aggregate-kept-hits : tie.Need-slice-aggregate-kept-hits
 slice-aggregate-kept-hits c = search needs
 
-kept-hits-requires : tie.Need-kept-hits-requires
-kept-hits-requires c κs = omega (arith, rw (c .before .before .n .given .1) at (c .before .before .before .before .before .sorted-hits .ensures .1), c .before .before .before .before .before .sorted-hits .kept .1 .1 .0)
+slice-aggregate-kept-hits-2 : tie.Need-slice-aggregate-kept-hits-2
+slice-aggregate-kept-hits-2 c = search needs
 
-enum-known-s : tie.Need-enum-known-s
-enum-known-s c = search needs
+kept-hits-requires : tie.Need-kept-hits-requires
+kept-hits-requires c κs = let sorted = c .before .before .before .before .before .before .before .sorted-hits in
+    let n = rw (c .before .before .before .n .given .1) at (sorted .ensures .1) in
+    (omega (arith, n, sorted .kept .1 .1 .0), omega (arith, n, sorted .kept .1 .1 .1 .0))
+
+enum-known-g : tie.Need-enum-known-g
+enum-known-g c = search needs
 
 spanned-requires : tie.Need-spanned-requires
 spanned-requires c κs = search needs
@@ -40,33 +48,39 @@ enum-known-r : tie.Need-enum-known-r
 enum-known-r c = search needs
 
 returns : tie.Need-returns
-returns c = rw (← (joined-kept _ _), ← (rw (c .before .before .before .before .before .before .before .n .given .1) at (c .before .before .before .before .before .before .before .before .before .before .sorted-hits .ensures .0)), ← (c .before .before .before .before .kept-hits .ensures), c .before .before .s .given .1) (c .spanned .ensures)
+returns c = let at = c .before .before .before .before .before .before .before .before in
+    rw (← (joined-kept _ _), ← (rw (at .n .given .1) at (at .before .before .before .before .sorted-hits .ensures .0)), ← (c .before .before .before .before .kept-hits .ensures), c .before .before .g .given .1) (c .spanned .ensures)
 
 returns-2 : tie.Need-returns-2
 unfolding crossed
-returns-2 c = rw (← (joined-kept _ _), ← (rw (c .before .before .before .before .before .n .given .1) at (c .before .before .before .before .before .before .before .before .sorted-hits .ensures .0)), ← (c .before .before .kept-hits .ensures), c .enum-told .given .1)
+returns-2 c = let at = c .before .before .before .before .before .before in
+    rw (← (joined-kept _ _), ← (rw (at .n .given .1) at (at .before .before .before .before .sorted-hits .ensures .0)), ← (c .before .before .kept-hits .ensures), c .enum-told .given .1)
 
 returns-3 : tie.Need-returns-3
 unfolding crossed
-returns-3 c = rw (← (joined-kept _ _), ← (rw (c .before .before .before .before .before .n .given .1) at (c .before .before .before .before .before .before .before .before .sorted-hits .ensures .0)), ← (c .before .before .kept-hits .ensures), c .enum-told2 .given .1)
+returns-3 c = let at = c .before .before .before .before .before .before in
+    rw (← (joined-kept _ _), ← (rw (at .n .given .1) at (at .before .before .before .before .sorted-hits .ensures .0)), ← (c .before .before .kept-hits .ensures), c .enum-told2 .given .1)
 
 returns-4 : tie.Need-returns-4
 unfolding crossed
-returns-4 c = rw (← (joined-kept _ _), ← (rw (c .before .before .before .before .before .n .given .1) at (c .before .before .before .before .before .before .before .before .sorted-hits .ensures .0)), ← (c .before .before .kept-hits .ensures), c .enum-told3 .given .1)
+returns-4 c = let at = c .before .before .before .before .before .before in
+    rw (← (joined-kept _ _), ← (rw (at .n .given .1) at (at .before .before .before .before .sorted-hits .ensures .0)), ← (c .before .before .kept-hits .ensures), c .enum-told3 .given .1)
 
 returns-5 : tie.Need-returns-5
-returns-5 c = rw (← (joined-kept _ _), ← (rw (c .before .r .given .1) at (c .before .before .before .before .sorted-hits .ensures .0)))
+returns-5 c = rw (← (joined-kept _ _), ← (rw (c .before .r .given .1) at (c .before .before .before .before .before .sorted-hits .ensures .0)))
 
 pub joined-crossing-spec : {M : Type 1} → statement M
 joined-crossing-spec =
     tie.close
     (tie.spec
     slice-aggregate-sorted-hits
+    slice-aggregate-sorted-hits-2
     sorted-hits-requires
     enum-known-n
     slice-aggregate-kept-hits
+    slice-aggregate-kept-hits-2
     kept-hits-requires
-    enum-known-s
+    enum-known-g
     spanned-requires
     enum-told
     enum-told-2

@@ -1,4 +1,4 @@
--- `insert` moves each number from t's place on one place later. Assumes nothing.
+-- `insert` moves each hit from the new one's place on one place later. Assumes nothing.
 use Prim.Native.Nat.{_+_, _≤_, _<_, _-_}
 use mathlib.Core.Path.{_≡_, refl}
 use mathlib.Core.List.{_++_}
@@ -6,36 +6,51 @@ use native.Mathlib.Omega.{arith}
 use borrow.Author.Needs.{needs}
 use lib.ListN.{length, take, drop, getD, length-set}
 use lib.Ieee.{nan}
-use Rattle.queries.proofs.joined.Laws.{spread, place-within, spread-start, spread-at, spread-next, spread-set, spread-end}
+use Rattle.queries.proofs.joined.Laws.{spread, place-within, spread-start, spread-at, spread-next, spread-set, insert-ends}
 use Rattle.queries.proofs.joined.insert.Statement.{statement}
 use Rattle.queries.proofs.joined.insert.Tie as tie
 
 abbrev Inv-loop : tie.InvT-loop
-Inv-loop ts₀ n t place k₀ carry₀ ts k carry = (place ≤ k) × (k ≤ n + 1) × (length ts ≡ length ts₀) × (n < length ts₀) × (ts ≡ take k (spread ts₀ place t) ++ drop k ts₀) × (carry ≡ getD (spread ts₀ place t) k nan)
+Inv-loop ts₀ es₀ n t₀ edge₀ k₀ ts es t edge k =
+    (k₀ ≤ k) × (k ≤ n + 1) × (n < length ts₀) × (n < length es₀) × (length ts ≡ length ts₀) × (length es ≡ length es₀)
+    × (ts ≡ take k (spread ts₀ k₀ t₀) ++ drop k ts₀) × (t ≡ getD (spread ts₀ k₀ t₀) k nan)
+    × (es ≡ take k (spread es₀ k₀ edge₀) ++ drop k es₀) × (edge ≡ getD (spread es₀ k₀ edge₀) k 0)
 
 abbrev μ-loop : tie.MeasureT-loop
-μ-loop ts₀ n t place k₀ carry₀ ts k carry = n + 1 - k
+μ-loop ts₀ es₀ n t₀ edge₀ k₀ ts es t edge k = n + 1 - k
 
 place-of-requires : tie.Need-place-of-requires Inv-loop μ-loop
 place-of-requires c κs = search needs
 
 loop-holds : tie.Need-loop-holds Inv-loop μ-loop
-loop-holds c = let ts = c .before .before .before .args .ts .now in
+loop-holds c = let a = c .before .before .before .before .args in
     let p = c .place-of .result in
-    let w : p ≤ c .before .before .before .args .n = rw (c .place-of .ensures) (place-within _ ts _ (omega arith)) in
-    (omega arith, omega arith, refl, omega arith, spread-start ts p _ (omega arith), spread-at ts p _ (omega arith))
+    let w : p ≤ a .n = rw (c .place-of .ensures) (place-within _ (a .ts .now) _ (omega arith)) in
+    (omega arith, omega arith, omega arith, omega arith, refl, refl, spread-start (a .ts .now) p _ (omega arith), spread-at (a .ts .now) p _ (omega arith) nan, spread-start (a .es .now) p _ (omega arith), spread-at (a .es .now) p _ (omega arith) 0)
 
-mul-next : tie.Need-mul-next Inv-loop μ-loop
-mul-next c = search needs
+mul-next-t : tie.Need-mul-next-t Inv-loop μ-loop
+mul-next-t c = search needs
 
-slice-read-next : tie.Need-slice-read-next Inv-loop μ-loop
-slice-read-next c = omega arith
+slice-read-next-t : tie.Need-slice-read-next-t Inv-loop μ-loop
+slice-read-next-t c = omega arith
+
+mul-next-edge : tie.Need-mul-next-edge Inv-loop μ-loop
+mul-next-edge c = search needs
+
+slice-read-next-edge : tie.Need-slice-read-next-edge Inv-loop μ-loop
+slice-read-next-edge c = omega arith
 
 mul-ts : tie.Need-mul-ts Inv-loop μ-loop
 mul-ts c = search needs
 
 slice-write-ts : tie.Need-slice-write-ts Inv-loop μ-loop
 slice-write-ts c = omega arith
+
+mul-es : tie.Need-mul-es Inv-loop μ-loop
+mul-es c = search needs
+
+slice-write-es : tie.Need-slice-write-es Inv-loop μ-loop
+slice-write-es c = omega arith
 
 add-k : tie.Need-add-k Inv-loop μ-loop
 add-k c = omega arith
@@ -44,23 +59,29 @@ loop-less : tie.Need-loop-less Inv-loop μ-loop
 loop-less c = omega arith
 
 loop-again : tie.Need-loop-again Inv-loop μ-loop
-loop-again c = let at = c .before .before .loop in (
+loop-again c = let at = c .before .before .before .loop in (
+  omega arith,
+  omega arith,
   omega arith,
   omega arith,
   simp length-set (omega arith),
-  omega arith,
-  rw (at .inv .4, at .inv .5) (spread-set _ _ _ (at .k) (at .inv .0) (omega arith)),
-  rw (at .inv .4) (spread-next _ _ _ (at .k) (at .inv .0) (omega arith)),
+  simp length-set (omega arith),
+  rw (at .inv .6, at .inv .7) (spread-set nan _ _ _ (at .k) (at .inv .0) (omega arith)),
+  rw (at .inv .6) (spread-next nan _ _ _ (at .k) (at .inv .0) (omega arith)),
+  rw (at .inv .8, at .inv .9) (spread-set 0 _ _ _ (at .k) (at .inv .0) (omega arith)),
+  rw (at .inv .8) (spread-next 0 _ _ _ (at .k) (at .inv .0) (omega arith)),
 )
 
 same-length : tie.Need-same-length Inv-loop μ-loop
 same-length c = omega arith
 
+same-length-2 : tie.Need-same-length-2 Inv-loop μ-loop
+same-length-2 c = omega arith
+
 returns : tie.Need-returns Inv-loop μ-loop
-returns c = let ts = c .before .before .before .before .before .args .ts .now in
-    let n = c .before .before .before .before .before .args .n in
-    let e : c .before .loop .k ≡ n + 1 = omega arith in
-    rw (c .before .loop .inv .4, e, spread-end ts n (c .before .before .before .before .before .args .t) (c .before .before .place-of .result) (omega arith) (c .before .before .place-of .ensures))
+returns c = let a = c .before .before .before .before .before .before .args in
+    let e : c .before .loop .k ≡ a .n + 1 = omega arith in
+    rw (c .before .loop .inv .6, c .before .loop .inv .8, e) (insert-ends (a .ts .now) (a .es .now) (a .n) (a .hit .t) (a .hit .edge) (c .before .before .place-of .result) (omega arith) (omega arith) (c .before .before .place-of .ensures))
 
 pub insert-spec : {M : Type 1} → statement M
 insert-spec =
@@ -70,12 +91,17 @@ insert-spec =
     μ-loop
     place-of-requires
     loop-holds
-    mul-next
-    slice-read-next
+    mul-next-t
+    slice-read-next-t
+    mul-next-edge
+    slice-read-next-edge
     mul-ts
     slice-write-ts
+    mul-es
+    slice-write-es
     add-k
     loop-less
     loop-again
     same-length
+    same-length-2
     returns)

@@ -5,37 +5,36 @@ use mathlib.Core.Logic.{⊎-elim}
 use native.Mathlib.Omega.{arith}
 use borrow.Author.Needs.{needs}
 use borrow.Author.Tests.{not-true, not-false}
-use lib.ListN.{take, drop}
-use Rattle.queries.proofs.joined.Laws.{kept-start, kept-dropped, kept-more, kept-end}
-use Rattle.queries.specs.Code.{seenAfter, seenKept}
+use lib.ListN.{length, take, drop}
 use Rattle.errors.proofs.Laws.{told}
+use Rattle.queries.specs.Hits.{nearby, dropped}
+use Rattle.queries.specs.Code.{seenOf, paired, firstHits}
+use Rattle.queries.proofs.joined.Laws.{keptLeft, kept-start, kept-dropped, kept-more, kept-end}
 use Rattle.queries.proofs.joined.kept_hits.Statement.{statement}
 use Rattle.queries.proofs.joined.kept_hits.Tie as tie
 
 abbrev Inv-loop : tie.InvT-loop
-Inv-loop ts n last₀ seen₀ k₀ last seen k = (1 ≤ k) × (k ≤ n) × (seenAfter seen last (drop k (take n ts)) ≡ seenKept (take n ts))
+Inv-loop ts es n last₀ seen₀ k₀ last seen k = (1 ≤ k) × (k ≤ n) × (n ≤ length ts) × (n ≤ length es) × (keptLeft (firstHits n ts es) k last seen ≡ seenOf (dropped nearby (firstHits n ts es)))
 
 abbrev μ-loop : tie.MeasureT-loop
-μ-loop ts n last₀ seen₀ k₀ last seen k = n - k
+μ-loop ts es n last₀ seen₀ k₀ last seen k = n - k
 
 returns : tie.Need-returns Inv-loop μ-loop
-unfolding seenKept
+unfolding paired dropped seenOf
 returns c = rw (c .if1 .taken)
 
-shared-slice-read-last : tie.Need-shared-slice-read-last Inv-loop μ-loop
-shared-slice-read-last c = omega arith
+hit-in-requires : tie.Need-hit-in-requires Inv-loop μ-loop
+hit-in-requires c κs = (omega arith, omega arith)
 
 loop-holds : tie.Need-loop-holds Inv-loop μ-loop
-loop-holds c = (omega arith, omega arith, kept-start (c .before .before .before .args .ts .now) (c .before .before .before .args .n) (omega arith) (omega arith))
+loop-holds c = let a = c .before .before .before .before .args in
+    (omega arith, omega arith, omega arith, omega arith, kept-start (a .ts .now) (a .es .now) (a .n) (omega arith) (omega arith) (omega arith) _ (c .hit-in .ensures))
 
-mul-t : tie.Need-mul-t Inv-loop μ-loop
-mul-t c = omega arith
+hit-in-requires-2 : tie.Need-hit-in-requires-2 Inv-loop μ-loop
+hit-in-requires-2 c κs = (omega arith, omega arith)
 
-shared-slice-read-t : tie.Need-shared-slice-read-t Inv-loop μ-loop
-shared-slice-read-t c = omega arith
-
-is-within-requires : tie.Need-is-within-requires Inv-loop μ-loop
-is-within-requires c κs = search needs
+is-near-requires : tie.Need-is-near-requires Inv-loop μ-loop
+is-near-requires c κs = search needs
 
 added-requires : tie.Need-added-requires Inv-loop μ-loop
 added-requires c κs = search needs
@@ -47,17 +46,21 @@ loop-less : tie.Need-loop-less Inv-loop μ-loop
 loop-less c = omega arith
 
 loop-again : tie.Need-loop-again Inv-loop μ-loop
-loop-again c = let at = c .before .before .before .before .loop in (
-  omega arith,
-  omega arith,
-  ⊎-elim
-      (λ w. rw (w .2, w .3 ∙ w .1 .ensures) (kept-more _ _ _ _ _ _ (at .inv .2) (omega arith) (c .before .before .before .loop-test .taken) (told (c .before .is-within .ensures) (not-true _ (w .0 .taken)))))
-      (λ w. rw (w .1, w .2) (kept-dropped _ _ _ _ _ _ (at .inv .2) (omega arith) (c .before .before .before .loop-test .taken) (told (c .before .is-within .ensures) (not-false _ (w .0 .left)))))
-      (c .if2 .came),
-)
+loop-again c = let at = c .before .before .before .before .loop in
+    let a = c .before .before .before .before .before .before .before .before .before .args in (
+      omega arith,
+      omega arith,
+      omega arith,
+      omega arith,
+      ⊎-elim
+          (λ w. rw (w .2, w .3 ∙ w .1 .ensures) (kept-more (a .ts .now) (a .es .now) (a .n) (omega arith) (omega arith) (at .k) (at .last) (at .seen) _ (at .inv .4) _ (c .before .before .hit-in2 .ensures) (c .before .before .before .loop-test .taken) (told (c .before .is-near .ensures) (not-true _ (w .0 .taken)))))
+          (λ w. rw (w .1, w .2) (kept-dropped (a .ts .now) (a .es .now) (a .n) (omega arith) (omega arith) (at .k) (at .last) (at .seen) _ (at .inv .4) _ (c .before .before .hit-in2 .ensures) (c .before .before .before .loop-test .taken) (told (c .before .is-near .ensures) (not-false _ (w .0 .left)))))
+          (c .if2 .came),
+    )
 
 returns-2 : tie.Need-returns-2 Inv-loop μ-loop
-returns-2 c = kept-end _ _ (c .before .loop .k) _ _ _ (c .before .loop .inv .2) (omega arith) (c .loop-test .left)
+returns-2 c = let a = c .before .before .before .before .before .before .args in
+    kept-end (a .ts .now) (a .es .now) (a .n) (omega arith) (omega arith) (c .before .loop .k) (c .before .loop .last) _ _ (c .before .loop .inv .4) (c .loop-test .left)
 
 pub kept-hits-spec : {M : Type 1} → statement M
 kept-hits-spec =
@@ -66,11 +69,10 @@ kept-hits-spec =
     Inv-loop
     μ-loop
     returns
-    shared-slice-read-last
+    hit-in-requires
     loop-holds
-    mul-t
-    shared-slice-read-t
-    is-within-requires
+    hit-in-requires-2
+    is-near-requires
     added-requires
     add-k
     loop-less

@@ -10,7 +10,7 @@ tell-crossing-requires : tie.Need-tell-crossing-requires
 tell-crossing-requires c κs = search needs
 
 returns : tie.Need-returns
-returns c = rw (← (c .before .before .crossing-line .ensures)) (c .tell-crossing .ensures)
+returns c = rw (← (c .before .before .before .crossing-line .ensures)) (c .tell-crossing .ensures)
 
 pub rummyteak-crossing-line-spec : {M : Type 1} → statement M
 rummyteak-crossing-line-spec =

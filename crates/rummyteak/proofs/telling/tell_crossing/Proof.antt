@@ -14,7 +14,7 @@ number-requires : tie.Need-number-requires
 number-requires c κs = search needs
 
 returns : tie.Need-returns
-returns c = rw (c .before .before .before .before .before .a .given .1) (told-result _ _ _)
+returns c = rw (c .before .before .before .before .before .before .before .a .given .1) (told-result _ _ _)
 
 returns-2 : tie.Need-returns-2
 returns-2 c = rw (c .before .before .a2 .given .1) (told-refusal _ _ _ (c .number .ensures))

@@ -1,7 +1,7 @@
 -- `asked` has 8 for a line that misses. Assumes nothing.
 use borrow.Author.Needs.{needs}
-use Rattle.sections.proofs.asked.Statement.{statement}
-use Rattle.sections.proofs.asked.Tie as tie
+use Rattle.queries.proofs.asked.Statement.{statement}
+use Rattle.queries.proofs.asked.Tie as tie
 
 enum-known-found : tie.Need-enum-known-found
 enum-known-found c = search needs
