@@ -12,11 +12,6 @@ use std::sync::atomic::Ordering;
 
 include!(concat!(env!("ORACLE_OUT"), "/published.rs"));
 
-// Orientation by curvature is not ported; nothing here asks for it.
-fn check_curvature_upper(_: &InscribedVec) -> Result<bool> {
-    unreachable!()
-}
-
 pub fn curve(section: &[f64], section_tol: f64) -> Curve2 {
     let points: Vec<Point2> = section.chunks_exact(2).map(|p| Point2::new(p[0], p[1])).collect();
     let curve = Curve2::from_points(&points, section_tol, false).unwrap();

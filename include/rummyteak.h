@@ -194,7 +194,8 @@ uint32_t rummyteak_orient_tmax_fwd(double *store, size_t store_len, size_t count
 uint32_t rummyteak_orient_airflow(double x, double y, double *store, size_t store_len, size_t count, bool *turned);
 uint32_t rummyteak_orient_fwd(double x, double y, double *store, size_t store_len, size_t count, bool *turned);
 
-/* Second contact on the upper side: by a vector to the upper side, or to the lower. */
+/* Second contact on the upper side: by the side to which the camber bends, by a vector to the upper side, or by one to the lower. */
+uint32_t rummyteak_orient_curvature(double *store, size_t store_len, size_t count, bool *swapped);
 uint32_t rummyteak_orient_upper(double x, double y, double *store, size_t store_len, size_t count, bool *swapped);
 uint32_t rummyteak_orient_lower(double x, double y, double *store, size_t store_len, size_t count, bool *swapped);
 

@@ -25,7 +25,7 @@ TAKEN = [
         [
             "@Clone, Copy",
             "pub struct CurveStation2<'a>",
-            ("impl<'a> CurveStation2<'a> {", ["new", "point", "direction", "index", "fraction", "length_along", "direction_line"]),
+            ("impl<'a> CurveStation2<'a> {", ["new", "point", "direction", "index", "fraction", "length_along", "surface_point", "direction_line"]),
             "@Clone",
             "pub struct Curve2 {",
             (
@@ -110,6 +110,7 @@ TAKEN = [
             "pub enum OrientUpperLower",
             "impl OrientUpperLower {",
             "fn check_dir_upper(",
+            "fn check_curvature_upper(",
             "fn check_dir_fwd(",
             "fn check_tmax_fwd(",
         ],

@@ -484,6 +484,7 @@ fn lists(g: &mut Generator, s: &Shape, store: &[f64], count: usize, tally: &mut 
         Call::ReverseOrder(count),
         Call::ReverseOrderOnly(count),
         Call::OrientFwdAft(0, count),
+        Call::OrientUpperLower(2, count),
     ] {
         tally.compare(call, &[], &[0.0; 4], store);
     }

@@ -45,6 +45,7 @@ unsafe extern "C" {
     pub fn rummyteak_orient_tmax_fwd(s: Out, l: usize, count: usize, turned: &mut bool) -> u32;
     pub fn rummyteak_orient_airflow(x: f64, y: f64, s: Out, l: usize, count: usize, turned: &mut bool) -> u32;
     pub fn rummyteak_orient_fwd(x: f64, y: f64, s: Out, l: usize, count: usize, turned: &mut bool) -> u32;
+    pub fn rummyteak_orient_curvature(s: Out, l: usize, count: usize, swapped: &mut bool) -> u32;
     pub fn rummyteak_orient_upper(x: f64, y: f64, s: Out, l: usize, count: usize, swapped: &mut bool) -> u32;
     pub fn rummyteak_orient_lower(x: f64, y: f64, s: Out, l: usize, count: usize, swapped: &mut bool) -> u32;
     pub fn rummyteak_is_open_at_end(p: In, n: usize, section_tol: f64, tol: f64, s: In, l: usize, count: usize, at_front: bool, is_open: &mut bool) -> u32;

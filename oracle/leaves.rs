@@ -1,5 +1,5 @@
-// What the published functions stand on, written from document 01's four leaf rules and its list of small leaves, and from docs/DECISIONS.md where that list
-// leaves a form open. Nothing here is engeom's text. Each operation is one of Rust's f64 operations, which rounds once.
+// What the published functions stand on, written from document 01's four leaf rules, the fifth of document 02 and 01's list of small leaves, and from docs/DECISIONS.md
+// where these leave a form open. Nothing here is engeom's text. Each operation is one of Rust's f64 operations, which rounds once.
 use crate::{Curve2, CurveStation2, dist};
 use std::ops::{Add, Mul, Neg, Sub};
 use std::sync::atomic::{AtomicU64, Ordering};
@@ -162,6 +162,12 @@ impl Mul<UnitVec2> for Turn {
     }
 }
 
+impl CurveStation2<'_> {
+    pub fn normal(&self) -> UnitVec2 {
+        rot90(AngleDir::Cw) * self.direction()
+    }
+}
+
 // ---- lines and surface points
 
 pub trait LineOps2 {
@@ -224,6 +230,11 @@ impl Line2 {
 
     pub fn scalar_project(&self, p: &impl PCoords<2>) -> f64 {
         self.direction.dot(&(p.coords() - self.origin.coords))
+    }
+
+    // Positive to the right of the direction.
+    pub fn signed_distance_to(&self, p: &impl PCoords<2>) -> f64 {
+        (rot90(AngleDir::Cw) * self.direction.normalized()).dot(&(p.coords() - self.origin.coords))
     }
 
     // The fractions along both lines where they meet; a determinant below 1e-12 in size is none.
@@ -389,6 +400,27 @@ impl Curve2 {
         hits.sort_by(|a, b| a.0.partial_cmp(&b.0).unwrap());
         hits.dedup_by(|a, b| a.1 == b.1 && (a.0 - b.0).abs() < 1e-8);
         hits
+    }
+}
+
+// ---- the samples of a camber: its ends, and between them those at length times i / 49, product first
+
+pub struct ByCount(pub usize);
+
+pub struct Samples(Vec<Point2>);
+
+impl Samples {
+    pub fn points(&self) -> &[Point2] {
+        &self.0
+    }
+}
+
+impl Curve2 {
+    pub fn resample(&self, ByCount(n): ByCount) -> Result<Samples> {
+        let last = n - 1;
+        let inside = (1..last).map(|i| self.at_length(self.length() * i as f64 / last as f64).unwrap().point());
+        let ends = (self.vtx(0), self.vtx(self.count() - 1));
+        Ok(Samples(std::iter::once(ends.0).chain(inside).chain([ends.1]).collect()))
     }
 }
 

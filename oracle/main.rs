@@ -18,11 +18,6 @@ use std::sync::atomic::Ordering;
 
 include!(concat!(env!("ORACLE_OUT"), "/published.rs"));
 
-// Orientation by curvature is not ported; no input asks for it.
-fn check_curvature_upper(_: &InscribedVec) -> Result<bool> {
-    unreachable!()
-}
-
 // ---- the published functions, called as the proved ones are
 
 // What the Rust answers: the number of its None or Err (0 for a value), then the words and numbers to be found.
@@ -241,12 +236,12 @@ fn list_wanted(call: Call, args: &[f64], store: &[f64]) -> Result<Wanted> {
             Wanted::list(circles, vec![turned as u64])
         }
         Call::OrientUpperLower(how, count) => {
-            let how = [OrientUpperLower::Upper(vector()), OrientUpperLower::Lower(vector())][how as usize];
+            let how = [OrientUpperLower::Upper(vector()), OrientUpperLower::Lower(vector()), OrientUpperLower::Curvature][how as usize];
             let circles = how.apply(circles_of(store, count))?;
             let swapped = match how {
                 OrientUpperLower::Upper(v) => check_dir_upper(&list(count), v)?,
                 OrientUpperLower::Lower(v) => check_dir_upper(&list(count), -v)?,
-                OrientUpperLower::Curvature => unreachable!(),
+                OrientUpperLower::Curvature => check_curvature_upper(&list(count))?,
             };
             Wanted::list(circles, vec![swapped as u64])
         }

@@ -102,7 +102,8 @@ pub fn call(call: Call, section: &[f64], args: &[f64], store: &[f64]) -> Answer 
             Call::OrientFwdAft(1, stated) => rummyteak_orient_airflow(x, y, s, l, stated, &mut yes),
             Call::OrientFwdAft(_, stated) => rummyteak_orient_fwd(x, y, s, l, stated, &mut yes),
             Call::OrientUpperLower(0, stated) => rummyteak_orient_upper(x, y, s, l, stated, &mut yes),
-            Call::OrientUpperLower(_, stated) => rummyteak_orient_lower(x, y, s, l, stated, &mut yes),
+            Call::OrientUpperLower(1, stated) => rummyteak_orient_lower(x, y, s, l, stated, &mut yes),
+            Call::OrientUpperLower(_, stated) => rummyteak_orient_curvature(s, l, stated, &mut yes),
         }
     };
     let (first, second) = match call {

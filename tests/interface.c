@@ -307,6 +307,9 @@ static void orientation(void)
     EXPECT(rummyteak_orient_fwd(1, 0, store, 2 * W, 2, &yes) == 0 && yes && store[0] == 5);
     EXPECT(rummyteak_orient_airflow(1, 0, store, 2 * W, 2, &yes) == 0 && yes && same(store, PAIR, 2 * W));
     EXPECT(rummyteak_orient_tmax_fwd(store, 2 * W, 2, &yes) == 0);
+    release(store), store = copy(PAIR, 2 * W);
+    EXPECT(rummyteak_orient_curvature(store, 2 * W, 2, &yes) == 0 && yes && store[0] == 4 && store[4] == 2);
+    EXPECT(rummyteak_orient_curvature(store, 2 * W, 2, &yes) == 0 && !yes && store[0] == 4 && store[4] == 2);
     double *one = copy(PAIR, W);
     yes = true;
     EXPECT(rummyteak_orient_fwd(1, 0, one, W, 1, &yes) == 7 && yes && same(one, PAIR, W));
@@ -314,6 +317,10 @@ static void orientation(void)
     EXPECT(rummyteak_orient_upper(0, 1, one, W, 0, &yes) == 7 && yes);
     EXPECT(rummyteak_orient_lower(0, INFINITY, one, W, 1, &yes) == 2 && yes && same(one, PAIR, W));
     EXPECT(rummyteak_orient_tmax_fwd(one, W, 2, &yes) == 4 && yes);
+    EXPECT(rummyteak_orient_curvature(one, W, 2, &yes) == 4 && yes);
+    EXPECT(rummyteak_orient_curvature(one, W, 1, &yes) == 7 && yes && same(one, PAIR, W));
+    one[0] = 2e6;
+    EXPECT(rummyteak_orient_curvature(one, W, 1, &yes) == 2 && yes && one[4] == 0);
     release(store), release(one);
 }
 

@@ -35,7 +35,7 @@ IN_C = {
     "front_and_back": "K n C C", "index_of_tmax": "K n N", "average_spacing": "K n 1", "end_clip_line": "K n 4",
     "reverse_points": "K n", "reverse_order_only": "K n", "reverse_order": "K n", "circles_from": "K n y N N",
     "camber_curve": "K n t R N B", "make_camber_curve": "l K n t R N B",
-    "orient_tmax_fwd": "K n B", "orient_airflow": "p K n B", "orient_fwd": "p K n B", "orient_upper": "p K n B", "orient_lower": "p K n B",
+    "orient_tmax_fwd": "K n B", "orient_airflow": "p K n B", "orient_fwd": "p K n B", "orient_curvature": "K n B", "orient_upper": "p K n B", "orient_lower": "p K n B",
     "is_open_at_end": "S t g K n y B", "fit_open_edge": "S t g K n y u 2 N U",
 }
 
@@ -49,7 +49,7 @@ IN_PYTHON = {
     "front_and_back": "k", "index_of_tmax": "k", "average_spacing": "k", "end_clip_line": "k",
     "reverse_points": "k", "reverse_order_only": "k", "reverse_order": "k", "circles_from": "k y",
     "camber_curve": "k t", "make_camber_curve": "P k t",
-    "orient_tmax_fwd": "k", "orient_airflow": "k p", "orient_fwd": "k p", "orient_upper": "k p", "orient_lower": "k p",
+    "orient_tmax_fwd": "k", "orient_airflow": "k p", "orient_fwd": "k p", "orient_curvature": "k", "orient_upper": "k p", "orient_lower": "k p",
     "is_open_at_end": "S t g k y", "fit_open_edge": "S t g k y u s",
 }
 

@@ -108,6 +108,11 @@ class Rows(unittest.TestCase):
         self.assertEqual(rt.orient_fwd(PAIR, 1, 0), (PAIR[::-1], True))
         self.assertEqual(rt.orient_airflow(PAIR, 1, 0), (PAIR, False))
         self.refused(7, rt.orient_tmax_fwd, PAIR[:1])
+        self.assertEqual(rt.orient_curvature(PAIR), (rt.reverse_points(PAIR), True))
+        self.assertEqual(rt.orient_curvature(rt.reverse_points(PAIR)), (rt.reverse_points(PAIR), False))
+        self.refused(7, rt.orient_curvature, PAIR[:1])
+        self.refused(5, rt.orient_curvature, PAIR[:1] * 2)
+        self.refused(11, rt.orient_curvature, PAIR + PAIR[:1])
 
     def test_edges(self):
         self.assertTrue(rt.is_open_at_end(U, T, G, PAIR, True))
@@ -355,6 +360,7 @@ class Command(unittest.TestCase):
         self.assertEqual(told("--end", "front")["number"], 20)
         self.assertEqual(told("--fwd", "1", "0")["turned"], not told("--airflow", "1", "0")["turned"])
         self.assertEqual(told("--upper", "0", "1")["swapped"], not told("--lower", "0", "1")["swapped"])
+        self.assertEqual(told("--curvature")["swapped"], told("--upper", "0", "1")["swapped"])
         self.assertLess(len(told("--tol", "0.1")["circles"]), len(plain["circles"]))
         self.assertLess(len(told("--section-tol", "1")["points"]), len(plain["points"]))
         self.assertEqual((told("--slots", "9")["number"], told("--limit", "9")["number"]), (15, 14))

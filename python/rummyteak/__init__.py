@@ -26,7 +26,7 @@ __all__ = [
     "length_along", "crossing_line", "joined_crossing", "inscribed_from_crossing", "try_inscribed", "inscribed_refined",
     "refine_and_push", "march", "extract_circles", "front_and_back", "index_of_tmax", "average_spacing", "end_clip_line",
     "reverse_points", "reverse_order_only", "reverse_order", "circles_from", "camber_curve", "make_camber_curve",
-    "orient_tmax_fwd", "orient_airflow", "orient_fwd", "orient_upper", "orient_lower", "is_open_at_end", "fit_open_edge",
+    "orient_tmax_fwd", "orient_airflow", "orient_fwd", "orient_curvature", "orient_upper", "orient_lower", "is_open_at_end", "fit_open_edge",
 ]
 
 
@@ -528,8 +528,13 @@ def orient_fwd(circles: Circles, x: float, y: float) -> Tuple[Tuple[Inscribed, .
     return _oriented("orient_fwd", (x, y), circles)
 
 
+def orient_curvature(circles: Circles) -> Tuple[Tuple[Inscribed, ...], bool]:
+    """Second contact on the upper side, by the side to which the camber bends; and whether the contacts were swapped."""
+    return _oriented("orient_curvature", (), circles)
+
+
 def orient_upper(circles: Circles, x: float, y: float) -> Tuple[Tuple[Inscribed, ...], bool]:
-    """Second contact on the upper side, by a vector to it; and whether the contacts were swapped."""
+    """Second contact on the upper side, by a vector to it."""
     return _oriented("orient_upper", (x, y), circles)
 
 

@@ -51,6 +51,7 @@ def parser() -> argparse.ArgumentParser:
     forward.add_argument("--fwd", type=float, nargs=2, metavar=("X", "Y"), help="a vector that points forward")
     forward.add_argument("--airflow", type=float, nargs=2, metavar=("X", "Y"), help="a vector along the airflow (without both: by the greatest radius)")
     side = words.add_mutually_exclusive_group()
+    side.add_argument("--curvature", action="store_true", help="upper side by the side to which the camber bends")
     side.add_argument("--upper", type=float, nargs=2, metavar=("X", "Y"), help="a vector to the upper side")
     side.add_argument("--lower", type=float, nargs=2, metavar=("X", "Y"), help="a vector to the lower side")
     words.add_argument("--end", choices=("auto", "front", "back", "none"), default=default.end, help="which end's open edge is fitted (%(default)s)")
@@ -70,7 +71,7 @@ def options_of(args: argparse.Namespace) -> Options:
 
     line = None if args.line is None else (args.line[0], args.line[1], args.line[2], args.line[3])
     return Options(
-        args.section_tol, args.tol, args.force_closed, line, pair(args.fwd), pair(args.airflow), pair(args.upper), pair(args.lower), args.end, args.limit, args.slots
+        args.section_tol, args.tol, args.force_closed, line, pair(args.fwd), pair(args.airflow), args.curvature, pair(args.upper), pair(args.lower), args.end, args.limit, args.slots
     )
 
 

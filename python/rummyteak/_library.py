@@ -85,6 +85,7 @@ _arguments = {
     "orient_tmax_fwd": [*_slice, n, B],
     "orient_airflow": [d, d, *_slice, n, B],
     "orient_fwd": [d, d, *_slice, n, B],
+    "orient_curvature": [*_slice, n, B],
     "orient_upper": [d, d, *_slice, n, B],
     "orient_lower": [d, d, *_slice, n, B],
     "is_open_at_end": [*_slice, d, d, *_slice, n, b, B],

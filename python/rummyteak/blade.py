@@ -24,6 +24,7 @@ class Options:
     line: Optional[Tuple[float, float, float, float]] = None
     fwd: Optional[Pair] = None
     airflow: Optional[Pair] = None
+    curvature: bool = False
     upper: Optional[Pair] = None
     lower: Optional[Pair] = None
     end: str = "auto"
@@ -120,7 +121,9 @@ class _Steps:
             blade.circles, blade.turned = rt.orient_airflow(blade.circles, *o.airflow)
         else:
             blade.circles, blade.turned = rt.orient_tmax_fwd(blade.circles)
-        if o.upper:
+        if o.curvature:
+            blade.circles, blade.swapped = rt.orient_curvature(blade.circles)
+        elif o.upper:
             blade.circles, blade.swapped = rt.orient_upper(blade.circles, *o.upper)
         elif o.lower:
             blade.circles, blade.swapped = rt.orient_lower(blade.circles, *o.lower)

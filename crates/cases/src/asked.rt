@@ -95,7 +95,8 @@ fn ask_yes(
         7 => turning::rummyteak_orient_airflow(x, y, store, stated, yes),
         8 => turning::rummyteak_orient_fwd(x, y, store, stated, yes),
         9 => turning::rummyteak_orient_upper(x, y, store, stated, yes),
-        _ => turning::rummyteak_orient_lower(x, y, store, stated, yes),
+        10 => turning::rummyteak_orient_lower(x, y, store, stated, yes),
+        _ => turning::rummyteak_orient_curvature(store, stated, yes),
     }
 }
 
@@ -278,7 +279,7 @@ fn ask_fit(
     number
 }
 
-// The number of what `kind` stands for: curves to 3, yes or no to 10, numbers to 14, stations to 19, lines to 22, circles to 25, runs to 28, the open edge 29,
+// The number of what `kind` stands for: curves to 3, yes or no to 10 and 45, numbers to 14, stations to 19, lines to 22, circles to 25, runs to 28, the open edge 29,
 // lists to 35 and 44, and single steps from 36 on.
 fn number_of(
     kind: u64,
@@ -296,7 +297,7 @@ fn number_of(
 ) -> u32 {
     match kind {
         0..=3 => ask_curve(kind, section, args, place, how, store, out, count, yes),
-        4..=10 => ask_yes(kind, section, args, place, how, store, yes),
+        4..=10 | 45 => ask_yes(kind, section, args, place, how, store, yes),
         11..=14 => ask_number(kind, section, args, place, store, out),
         15..=19 => ask_station(kind, section, args, place, out, count),
         20..=22 => ask_line(kind, section, args, place, store, out, edges),
@@ -389,7 +390,7 @@ pub(crate) fn ask(
             tell(told, 1, count as u64);
             tell(told, 2, word_of(yes));
         }
-        4..=10 => tell(told, 1, word_of(yes)),
+        4..=10 | 45 => tell(told, 1, word_of(yes)),
         _ => {
             tell(told, 1, count as u64);
             tell(told, 2, units as u64);

@@ -23,7 +23,8 @@ fn kind_of(name: &[u8]) -> u64 {
         inscribed_from_crossing try_inscribed inscribed_refined \
         refine_and_push march extract_circles fit_open_edge \
         index_of_tmax front_and_back reverse_points reverse_order reverse_order_only circles_from \
-        rot90 normalize halfway intersection_param closest_on_edge end_camber_ray isqrt_u64 isqrt_u32 index_of_tmax_of";
+        rot90 normalize halfway intersection_param closest_on_edge end_camber_ray isqrt_u64 isqrt_u32 index_of_tmax_of \
+        curvature";
     tables::place_of(names, name)
 }
 

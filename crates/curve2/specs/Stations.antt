@@ -7,9 +7,12 @@ use lib.ListN.{length}
 use lib.Ieee.{Float}
 use Rattle.errors.specs.Answer.{Answer, result, refusal, _>>=_}
 use Rattle.points.specs.Numbers.{f0, f1}
-use Rattle.points.specs.Points.{minus, plus, normalized}
+use Rattle.points.specs.Points.{minus, plus, rotated, normalized}
 use Rattle.points.specs.declared.Point2.{Point2}
 use Rattle.points.specs.declared.Vector2.{Vector2}
+use Rattle.points.specs.declared.AngleDir.the-variants.{Cw}
+use Rattle.line2.specs.Rays.{surfacePoint}
+use Rattle.line2.specs.declared.surface2.SurfacePoint2.{SurfacePoint2}
 use Rattle.curve2.specs.Section.{pointAt, isClosed}
 use Rattle.curve2.specs.declared.CurveStation2.{CurveStation2}
 use Rattle.curve2.specs.declared.StationAnswer.{StationAnswer}
@@ -45,6 +48,16 @@ unfoldable pub atVertex : List Float → Float → ℕ → Answer CurveStation2
 atVertex ns tol i =
     vertexDirection ns tol i >>= λ d.
     result (cond (eqb i (lastVertex ns)) (station (vertex ns i) d (i - 1) f1) (station (vertex ns i) d i f0))
+
+-- ---- what a station tells
+
+-- `normal`, by the leaf rule on quarter turns: the direction turned clockwise
+abbrev pub normalOf : CurveStation2 → Vector2
+normalOf s = rotated Cw (s .direction)
+
+-- `surface_point`: the point with that normal
+abbrev pub surfaceOf : CurveStation2 → SurfacePoint2
+surfaceOf s = surfacePoint (s .point) (normalOf s)
 
 abbrev pub listedStation : StationAnswer → Answer CurveStation2
 listedStation (StationAnswer.Value s) = result s

@@ -3,10 +3,13 @@ pub mod checked;
 pub mod entering;
 
 use errors::Refusal;
+use line2::surface2::SurfacePoint2;
+use points::AngleDir;
 use points::Point2;
 use points::Vector2;
 ghost use mathlib.Core.Path.{_≡_};
 ghost use Rattle.curve2.specs.Section.{point, plainDist};
+ghost use Rattle.curve2.specs.Stations.{normalOf, surfaceOf};
 
 // A section has no more points than this.
 pub const MOST_POINTS: usize = 4096;
@@ -36,6 +39,25 @@ pub struct CurveStation2 {
 pub enum StationAnswer {
     Value(CurveStation2),
     Refused(Refusal),
+}
+
+impl CurveStation2 {
+    // To the right of the direction.
+    pub fn normal(self) -> Vector2
+        ensures { λ r. ⌜ r ≡ normalOf self ⌝ }
+    {
+        let d = self.direction;
+        d.rot90(AngleDir::Cw)
+    }
+
+    // The point with its normal.
+    pub fn surface_point(self) -> SurfacePoint2
+        ensures { λ r. ⌜ r ≡ surfaceOf self ⌝ }
+    {
+        let point = self.point;
+        let normal = self.normal();
+        SurfacePoint2 { point, normal }
+    }
 }
 
 // The distance of two points by their coordinates.

@@ -1,9 +1,10 @@
 -- Lines: origin and direction. Assumes nothing.
 use lib.Ieee.{Float}
 use Rattle.errors.specs.Answer.{Answer, result, refusal, _>>=_}
-use Rattle.points.specs.Points.{watchedPoint, minus, moved, negated, difference, dotOf, normalized}
+use Rattle.points.specs.Points.{watchedPoint, minus, moved, negated, rotated, difference, dotOf, normalized}
 use Rattle.points.specs.declared.Point2.{Point2}
 use Rattle.points.specs.declared.Vector2.{Vector2}
+use Rattle.points.specs.declared.AngleDir.the-variants.{Cw}
 use Rattle.line2.specs.declared.Line2.{Line2}
 use Rattle.line2.specs.declared.LineAnswer.{LineAnswer}
 
@@ -29,6 +30,10 @@ atParam l t = watchedPoint (moved (l .origin) (l .direction) t)
 -- "a scalar projection is .. for a line direction·(p - origin)"
 unfoldable pub lineProjection : Line2 → Point2 → Answer Float
 lineProjection l p = dotOf (l .direction) (minus p (l .origin))
+
+-- `signed_distance_to`: the direction normalised, turned clockwise, times (p - origin); positive is to the right
+unfoldable pub signedDistance : Line2 → Point2 → Answer Float
+signedDistance l p = normalized (l .direction) >>= λ d. dotOf (rotated Cw d) (minus p (l .origin))
 
 -- ---- what the answer lists: the line, or the refusal
 

@@ -3,6 +3,7 @@ pub mod surface2;
 
 use errors::Refusal;
 use errors::ScalarAnswer;
+use points::AngleDir;
 use points::Point2;
 use points::PointAnswer;
 use points::Vector2;
@@ -10,7 +11,7 @@ use points::VectorAnswer;
 ghost use mathlib.Core.Path.{_≡_};
 ghost use Rattle.errors.specs.Answer.{listedScalar};
 ghost use Rattle.points.specs.Points.{listedPoint};
-ghost use Rattle.line2.specs.Lines.{listedLine, lineThrough, lineNormalized, reversedLine, atParam, lineProjection};
+ghost use Rattle.line2.specs.Lines.{listedLine, lineThrough, lineNormalized, reversedLine, atParam, lineProjection, signedDistance};
 ghost use Rattle.line2.specs.Intersection.{listedParams, intersectionParam};
 
 pub struct Line2 {
@@ -105,6 +106,29 @@ impl Line2 {
             y: py - oy,
         };
         d.dot(v)
+    }
+
+    // The distance of p from the line, positive to the right of its direction.
+    pub fn signed_distance_to(self, p: Point2) -> ScalarAnswer
+        ensures { λ r. ⌜ listedScalar r ≡ signedDistance self p ⌝ }
+    {
+        let o = self.origin;
+        let d = self.direction;
+        let px = p.x;
+        let py = p.y;
+        let ox = o.x;
+        let oy = o.y;
+        let v = Vector2 {
+            x: px - ox,
+            y: py - oy,
+        };
+        match d.normalize() {
+            VectorAnswer::Value(u) => {
+                let right = u.rot90(AngleDir::Cw);
+                right.dot(v)
+            }
+            VectorAnswer::Refused(r) => ScalarAnswer::Refused(r),
+        }
     }
 }
 

@@ -1,11 +1,11 @@
--- "`OrientFwdAft` is by greatest radius, by an airflow vector or by a forward vector; `OrientUpperLower` by an upper or a lower vector." Assumes nothing.
-use mathlib.Core.Bool.{Bool, not, cond, false, true, _&&_, _||_}
+-- "`OrientFwdAft` is by greatest radius, by an airflow vector or by a forward vector; `OrientUpperLower` by an upper or a lower vector", or by curvature. Assumes nothing.
+use mathlib.Core.Bool.{Bool, not, false, true, _&&_, _||_}
 use mathlib.Core.List.{List, [], _∷_, map, reverse}
 use mathlib.Core.Path.{_≡_}
-use Prim.Native.Nat.{ℕ, suc, _-_}
+use Prim.Native.Nat.{ℕ}
 use lib.Dec.{ltb}
-use lib.ListN.{length, getD}
-use lib.Ieee.{Float, lt, ofBits, binary64}
+use lib.ListN.{getD}
+use lib.Ieee.{Float, lt}
 use lib.Ieee.Scale.{finite}
 use Rattle.errors.specs.Answer.{Answer, result, _>>=_, watched, refusal}
 use Rattle.errors.specs.Numbers.{isPlus}
@@ -13,20 +13,22 @@ use Rattle.points.specs.Points.{dotOf, negated}
 use Rattle.points.specs.declared.Vector2.{Vector2}
 use Rattle.inscribed.specs.Circles.{contactDir, center, reversedPoints}
 use Rattle.inscribed.specs.declared.Inscribed.{Inscribed}
-use Rattle.inscribed.specs.Lists.{frontAndBack, tmax, averageSpacing}
+use Rattle.inscribed.specs.Lists.{frontAndBack, tmax}
 use Rattle.points.specs.Numbers.{_*f_, f½}
 use Rattle.curve2.specs.Section.{wholeLength}
-use Rattle.cleaning.specs.Cleaning.{pointNumbers, curveOf}
 use Rattle.sections.specs.Places.{atClosest, lengthAlong}
 use Rattle.inscribed.specs.Store.{circleFrom, circlesOf, stored, badStore, badStoreCount}
 use Rattle.curve2.specs.Entry.{tested}
 use Rattle.sections.specs.Asked.{listedBool}
 use Rattle.sections.specs.declared.BoolAnswer.{BoolAnswer}
 use Rattle.geometry.specs.Camber.{badCenters}
+use Rattle.orient.specs.Votes.{majority}
+use Rattle.orient.specs.Camber.{Camber, camberOf}
+use Rattle.orient.specs.Curvature.{curvatureOn}
 use Rattle.orient.specs.declared.OrientFwdAft.{OrientFwdAft}
 use Rattle.orient.specs.declared.OrientFwdAft.the-variants.{TmaxFwd, Airflow, Fwd}
 use Rattle.orient.specs.declared.OrientUpperLower.{OrientUpperLower}
-use Rattle.orient.specs.declared.OrientUpperLower.the-variants.{Upper, Lower}
+use Rattle.orient.specs.declared.OrientUpperLower.the-variants.{Curvature, Upper, Lower}
 use Rattle.errors.specs.declared.Refusal.the-variants.{BadNumber, NoRoom, TooFewCircles}
 
 -- ---- `check_dir_fwd`: by a vector that points forward
@@ -48,20 +50,12 @@ dirFwd dir cs = frontAndBack cs >>= λ ends. lessForward dir (ends .front) (ends
 unfoldable pub voteOf : Vector2 → Inscribed → Answer Bool
 voteOf dir c = dotOf dir (contactDir c) >>= λ d. result (not (isPlus d))
 
-unfoldable pub votesFrom : Vector2 → ℕ → List Inscribed → Answer ℕ
-unfolding voteOf
-votesFrom dir votes [] = result votes
-votesFrom dir votes (c ∷ cs) = voteOf dir c >>= λ flip. votesFrom dir (cond flip (suc votes) votes) cs
-
 -- swapped if more circles vote for it than don't
 unfoldable pub dirUpper : Vector2 → List Inscribed → Answer Bool
-dirUpper dir cs = votesFrom dir 0 cs >>= λ votes. result (ltb (length cs - votes) votes)
+unfolding voteOf
+dirUpper dir cs = majority (voteOf dir) cs
 
 -- ---- `check_tmax_fwd`: by the greatest radius
-
--- 5e-2
-abbrev pub spacingPart : Float
-spacingPart = ofBits binary64 0x3fa9_9999_9999_999a
 
 -- the thickest circle
 unfoldable pub thickest : List Inscribed → Inscribed
@@ -78,13 +72,17 @@ inBackHalf ns c =
     lengthAlong ns (station .index) (station .fraction) >>= λ along.
     behindHalf ns along
 
--- on the camber curve of a tolerance: 5 where that leaves fewer than two points
-unfoldable pub onCurve : List Inscribed → Float → Answer Bool
-onCurve cs tol = curveOf tol false (map center cs) >>= λ curve. inBackHalf (pointNumbers curve) (thickest cs)
+-- turned if the thickest circle isn't in the front half of the camber curve
+unfoldable pub tmaxOn : List Inscribed → Camber → Answer Bool
+tmaxOn cs camber = inBackHalf (camber .numbers) (thickest cs)
 
--- the tolerance is a part of the average spacing
 unfoldable pub tmaxFwd : List Inscribed → Answer Bool
-tmaxFwd cs = averageSpacing cs >>= λ spacing. onCurve cs (spacing *f spacingPart)
+tmaxFwd cs = camberOf cs >>= λ camber. tmaxOn cs camber
+
+-- ---- `check_curvature_upper`: by the side to which the camber bends
+
+unfoldable pub curvatureUpper : List Inscribed → Answer Bool
+curvatureUpper cs = camberOf cs >>= λ camber. curvatureOn cs camber
 
 -- ---- the entry tests
 
@@ -115,18 +113,20 @@ fwdAsked how ns count = orientEntry ns count (badFwd how ns count) >>= λ passed
 
 -- ---- upper and lower
 
-abbrev pub vectorOf : OrientUpperLower → Vector2
-vectorOf (Upper v) = v
-vectorOf (Lower v) = v
+-- by curvature a camber curve is built too
+abbrev pub badUpper : OrientUpperLower → List Float → ℕ → Bool
+badUpper Curvature ns count = badCenters ns count
+badUpper (Upper v) ns count = not (finiteVector v)
+badUpper (Lower v) ns count = not (finiteVector v)
 
--- to the upper side
-abbrev pub upperDir : OrientUpperLower → Vector2
-upperDir (Upper v) = v
-upperDir (Lower v) = negated v
+abbrev pub swapOf : OrientUpperLower → List Inscribed → Answer Bool
+swapOf Curvature cs = curvatureUpper cs
+swapOf (Upper v) cs = dirUpper v cs
+swapOf (Lower v) cs = dirUpper (negated v) cs
 
 -- whether the contacts have to be swapped
 unfoldable pub upperAsked : OrientUpperLower → List Float → ℕ → Answer Bool
-upperAsked how ns count = orientEntry ns count (not (finiteVector (vectorOf how))) >>= λ passed. dirUpper (upperDir how) (circlesOf ns count)
+upperAsked how ns count = orientEntry ns count (badUpper how ns count) >>= λ passed. swapOf how (circlesOf ns count)
 
 -- ---- the store afterwards
 

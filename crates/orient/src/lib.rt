@@ -1,7 +1,10 @@
 // Orientation of the circles in a store: which end is the leading edge, and which contacts are on the upper side.
+mod camber;
 mod checks;
+mod curvature;
 mod tmax;
 
+use camber::CamberCheck;
 use curve2::Entry;
 use errors::Refusal;
 use geometry::centers;
@@ -16,7 +19,7 @@ ghost use Rattle.curve2.specs.Entry.{listedEntry};
 ghost use Rattle.inscribed.specs.Circles.{reversedPoints};
 ghost use Rattle.inscribed.specs.Store.{width, mostSlots, circlesOf};
 ghost use Rattle.sections.specs.Asked.{listedBool};
-ghost use Rattle.orient.specs.Orientation.{finiteVector, orientEntry, badFwd, turnOf, fwdAsked, vectorOf, upperDir, upperAsked, Oriented};
+ghost use Rattle.orient.specs.Orientation.{finiteVector, orientEntry, badFwd, turnOf, fwdAsked, badUpper, swapOf, upperAsked, Oriented};
 
 // How the leading edge is told: by greatest radius, by the direction of the airflow, or by a direction that points forward.
 pub enum OrientFwdAft {
@@ -25,8 +28,9 @@ pub enum OrientFwdAft {
     Fwd(Vector2),
 }
 
-// How the upper side is told: by a direction that points to it, or to the lower side.
+// How the upper side is told: by the side to which the camber bends, or by a direction that points to the upper side, or to the lower.
 pub enum OrientUpperLower {
+    Curvature,
     Upper(Vector2),
     Lower(Vector2),
 }
@@ -87,7 +91,7 @@ fn turn_of(how: OrientFwdAft, store: &[f64], count: usize) -> BoolAnswer
     ensures { λ r. ⌜ listedBool r ≡ turnOf how (circlesOf (now (store .entry)) count) ⌝ }
 {
     match how {
-        OrientFwdAft::TmaxFwd => tmax::check_tmax_fwd(store, count),
+        OrientFwdAft::TmaxFwd => camber::check_on_camber(CamberCheck::TmaxFwd, store, count),
         OrientFwdAft::Airflow(v) => checks::check_dir_fwd(store, count, negated(v)),
         OrientFwdAft::Fwd(v) => checks::check_dir_fwd(store, count, v),
     }
@@ -104,37 +108,38 @@ fn check_fwd(how: OrientFwdAft, store: &[f64], count: usize) -> BoolAnswer
     }
 }
 
-// The vector of a case.
-fn vector_of(how: OrientUpperLower) -> Vector2
-    ensures { λ r. ⌜ r ≡ vectorOf how ⌝ }
+// What fails by 2 beside the circles' numbers: a vector, or by curvature a centre out of a camber curve's range.
+fn is_bad_upper(how: OrientUpperLower, store: &[f64], count: usize) -> bool
+    ensures { λ r. ⌜ r ≡ badUpper how (now (store .entry)) count ⌝ }
 {
     match how {
-        OrientUpperLower::Upper(v) => v,
-        OrientUpperLower::Lower(v) => v,
+        OrientUpperLower::Curvature => centers::has_bad_center(store, count),
+        OrientUpperLower::Upper(v) => !is_finite_vector(v),
+        OrientUpperLower::Lower(v) => !is_finite_vector(v),
     }
 }
 
-// The direction to the upper side.
-fn upper_dir(how: OrientUpperLower) -> Vector2
-    ensures { λ r. ⌜ r ≡ upperDir how ⌝ }
+// Whether the contacts of the circles have to be swapped.
+fn swap_of(how: OrientUpperLower, store: &[f64], count: usize) -> BoolAnswer
+    requires { ⌜ (count * width ≤ length (now store)) × (1 ≤ count) × (count ≤ mostSlots) ⌝ }
+    ensures { λ r. ⌜ listedBool r ≡ swapOf how (circlesOf (now (store .entry)) count) ⌝ }
 {
     match how {
-        OrientUpperLower::Upper(v) => v,
-        OrientUpperLower::Lower(v) => negated(v),
+        OrientUpperLower::Curvature => {
+            camber::check_on_camber(CamberCheck::Curvature, store, count)
+        }
+        OrientUpperLower::Upper(v) => checks::check_dir_upper(store, count, v),
+        OrientUpperLower::Lower(v) => checks::check_dir_upper(store, count, negated(v)),
     }
 }
 
-// Whether the contacts have to be swapped, after the entry tests.
+// The same after the entry tests.
 fn check_upper(how: OrientUpperLower, store: &[f64], count: usize) -> BoolAnswer
     ensures { λ r. ⌜ listedBool r ≡ upperAsked how (now (store .entry)) count ⌝ }
 {
-    let v = vector_of(how);
-    let good = is_finite_vector(v);
-    match entered(store, count, !good) {
-        Entry::Passed => {
-            let dir = upper_dir(how);
-            checks::check_dir_upper(store, count, dir)
-        }
+    let bad = is_bad_upper(how, store, count);
+    match entered(store, count, bad) {
+        Entry::Passed => swap_of(how, store, count),
         Entry::Refused(r) => BoolAnswer::Refused(r),
     }
 }

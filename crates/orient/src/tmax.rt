@@ -1,5 +1,4 @@
-// The check by the greatest radius, on the circles of a store whose count has been tested: whether they have to be turned.
-use cleaning::CurveAnswer;
+// The check by the greatest radius, on the camber curve of the circles of a store whose count has been tested: whether they have to be turned.
 use curve2::StationAnswer;
 use errors::ScalarAnswer;
 use inscribed::Inscribed;
@@ -8,9 +7,9 @@ ghost use mathlib.Core.Path.{_≡_};
 ghost use Prim.Native.Nat.{_*_, _≤_};
 ghost use lib.ListN.{length};
 ghost use Rattle.curve2.specs.Entry.{HasPoints};
-ghost use Rattle.inscribed.specs.Store.{width, mostSlots, circlesOf};
+ghost use Rattle.inscribed.specs.Store.{width, circlesOf};
 ghost use Rattle.sections.specs.Asked.{listedBool};
-ghost use Rattle.orient.specs.Orientation.{thickest, behindHalf, inBackHalf, onCurve, tmaxFwd};
+ghost use Rattle.orient.specs.Orientation.{thickest, behindHalf, inBackHalf};
 
 // Whether a length along isn't in the first half of a curve.
 fn is_behind_half(curve: &[f64], along: f64) -> BoolAnswer
@@ -51,30 +50,12 @@ fn thickest(store: &[f64], count: usize) -> Inscribed
     inscribed::checked::circle_at(store, k)
 }
 
-// By greatest radius, on the camber curve of a tolerance.
-fn check_on_curve(store: &[f64], count: usize, tol: f64) -> BoolAnswer
-    requires { ⌜ (count * width ≤ length (now store)) × (1 ≤ count) × (count ≤ mostSlots) ⌝ }
-    ensures { λ r. ⌜ listedBool r ≡ onCurve (circlesOf (now (store .entry)) count) tol ⌝ }
+// By greatest radius, on a camber curve that was made.
+pub(crate) fn check_tmax(curve: &[f64], store: &[f64], count: usize) -> BoolAnswer
+    requires { ⌜ HasPoints (now curve) ⌝ }
+    requires { ⌜ (count * width ≤ length (now store)) × (1 ≤ count) ⌝ }
+    ensures { λ r. ⌜ listedBool r ≡ inBackHalf (now (curve .entry)) (thickest (circlesOf (now (store .entry)) count)) ⌝ }
 {
     let c = thickest(store, count);
-    let mut curve = [0.0; 2054];
-    match geometry::checked::centers_curve(store, count, tol, &mut curve) {
-        CurveAnswer::Value(made) => {
-            let n = made.count;
-            let end = 2 * n;
-            is_in_back_half(&curve[..end], c)
-        }
-        CurveAnswer::Refused(r) => BoolAnswer::Refused(r),
-    }
-}
-
-// By greatest radius.
-pub(crate) fn check_tmax_fwd(store: &[f64], count: usize) -> BoolAnswer
-    requires { ⌜ (count * width ≤ length (now store)) × (1 ≤ count) × (count ≤ mostSlots) ⌝ }
-    ensures { λ r. ⌜ listedBool r ≡ tmaxFwd (circlesOf (now (store .entry)) count) ⌝ }
-{
-    match inscribed::checked::average_spacing(store, count) {
-        ScalarAnswer::Value(spacing) => check_on_curve(store, count, spacing * 5e-2),
-        ScalarAnswer::Refused(r) => BoolAnswer::Refused(r),
-    }
+    is_in_back_half(curve, c)
 }

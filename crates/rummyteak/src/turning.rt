@@ -55,7 +55,21 @@ pub extern "C" fn rummyteak_orient_fwd(
     telling::tell_bool(how.apply(store, count), turned)
 }
 
-// Brings the first contact of each circle in use to the lower side, by a direction that points to the upper side.
+// Brings the first contact of each circle in use to the lower side, by the side to which the camber bends.
+#[no_mangle]
+pub extern "C" fn rummyteak_orient_curvature(
+    store: &mut [f64],
+    count: usize,
+    swapped: &mut bool,
+) -> u32
+    ensures { λ r. ⌜ (record { number = r; left = now (swapped .exit) }) ≡ told (now (swapped .entry)) (upperAsked OrientUpperLower.Curvature (now (store .entry)) count) ⌝ }
+    ensures { λ r. ⌜ now (store .exit) ≡ upperStore OrientUpperLower.Curvature (now (store .entry)) count ⌝ }
+{
+    let how = OrientUpperLower::Curvature;
+    telling::tell_bool(how.apply(store, count), swapped)
+}
+
+// The same by a direction that points to the upper side.
 #[no_mangle]
 pub extern "C" fn rummyteak_orient_upper(
     x: f64,

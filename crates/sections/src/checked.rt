@@ -1,6 +1,8 @@
-// Places on a section whose entry tests passed: the length along of one, and the station nearest to a point.
+// Places on a section whose entry tests passed: the station at a length, the length along of a place, and the station nearest to a point.
+use crate::lengths;
 use curve2::CurveStation2;
 use curve2::StationAnswer;
+use errors::Refusal;
 use errors::ScalarAnswer;
 use points::Point2;
 use points::VectorAnswer;
@@ -10,7 +12,21 @@ ghost use Prim.Native.Nat.{_<_};
 ghost use Rattle.errors.specs.Answer.{listedScalar};
 ghost use Rattle.curve2.specs.Entry.{HasPoints};
 ghost use Rattle.curve2.specs.Stations.{lastVertex, listedStation};
-ghost use Rattle.sections.specs.Places.{lengthAlong, atClosest};
+ghost use Rattle.sections.specs.Places.{atLength, lengthAlong, atClosest};
+
+// The station at a length along: 9 where that is below 0 or above the whole.
+pub fn at_length(section: &[f64], tol: f64, length: f64) -> StationAnswer
+    requires { ⌜ HasPoints (now section) ⌝ }
+    ensures { λ r. ⌜ listedStation r ≡ atLength (now (section .entry)) tol length ⌝ }
+{
+    if length < 0.0 {
+        return StationAnswer::Refused(Refusal::OffCurve);
+    }
+    if curve2::checked::whole_length(section) < length {
+        return StationAnswer::Refused(Refusal::OffCurve);
+    }
+    lengths::length_found(section, tol, length)
+}
 
 // The length along of a place: the lengths up to its edge, and its fraction of that edge's.
 pub fn length_along(section: &[f64], index: usize, fraction: f64) -> ScalarAnswer

@@ -1,7 +1,6 @@
-// The station at a length along a section.
+// The search for the place at a length along a section.
 use curve2::CurveStation2;
 use curve2::StationAnswer;
-use errors::Refusal;
 use errors::ScalarAnswer;
 use points::Point2;
 use points::PointAnswer;
@@ -12,7 +11,7 @@ ghost use Rattle.points.specs.Numbers.{f0};
 ghost use Rattle.curve2.specs.Section.{pointsOf};
 ghost use Rattle.curve2.specs.Entry.{HasPoints};
 ghost use Rattle.curve2.specs.Stations.{listedStation};
-ghost use Rattle.sections.specs.Places.{insideEdge, atLengthFrom, atLength};
+ghost use Rattle.sections.specs.Places.{insideEdge, atLengthFrom};
 
 // The station at a length inside an edge, from p at length m to q at length n.
 fn inside_edge(index: usize, p: Point2, q: Point2, m: f64, n: f64, length: f64) -> StationAnswer
@@ -52,7 +51,7 @@ fn inside_edge(index: usize, p: Point2, q: Point2, m: f64, n: f64, length: f64) 
 }
 
 // The station at a length from 0 to the whole: the first vertex that has it, or inside the first edge that ends beyond it.
-fn length_found(section: &[f64], tol: f64, length: f64) -> StationAnswer
+pub(crate) fn length_found(section: &[f64], tol: f64, length: f64) -> StationAnswer
     requires { ⌜ HasPoints (now section) ⌝ }
     ensures { λ r. ⌜ listedStation r ≡ atLengthFrom (now (section .entry)) tol length 0 f0 (pointsOf (now (section .entry))) ⌝ }
 {
@@ -72,18 +71,4 @@ fn length_found(section: &[f64], tol: f64, length: f64) -> StationAnswer
         i += 1;
     }
     curve2::checked::at_vertex(section, tol, i)
-}
-
-// The station at a length along: 9 where that is below 0 or above the whole.
-pub(crate) fn at_length(section: &[f64], tol: f64, length: f64) -> StationAnswer
-    requires { ⌜ HasPoints (now section) ⌝ }
-    ensures { λ r. ⌜ listedStation r ≡ atLength (now (section .entry)) tol length ⌝ }
-{
-    if length < 0.0 {
-        return StationAnswer::Refused(Refusal::OffCurve);
-    }
-    if curve2::checked::whole_length(section) < length {
-        return StationAnswer::Refused(Refusal::OffCurve);
-    }
-    length_found(section, tol, length)
 }

@@ -138,7 +138,7 @@ pub fn at_length(section: &[f64], tol: f64, length: f64) -> StationAnswer
 {
     let good = errors::is_finite(length);
     match entered(section, tol, !good, false) {
-        Entry::Passed => lengths::at_length(section, tol, length),
+        Entry::Passed => checked::at_length(section, tol, length),
         Entry::Refused(r) => StationAnswer::Refused(r),
     }
 }

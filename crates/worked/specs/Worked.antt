@@ -37,7 +37,8 @@ use Rattle.runs.specs.Run.{Ending, ended, spent, next, run, whole}
 use Rattle.refine.specs.Machine.{withRoom, afterTrial, refineMove, measure, refineStep}
 use Rattle.inscribed.specs.Lists.{frontAndBack, tmaxFrom, tmax}
 use Rattle.lists.specs.Asked.{storeEntry, tmaxAsked}
-use Rattle.orient.specs.Orientation.{centerDot, lessForward, dirFwd, voteOf, votesFrom, dirUpper, orientEntry, fwdAsked, fwdStore, upperAsked, upperStore}
+use Rattle.orient.specs.Votes.{votesFrom, majority}
+use Rattle.orient.specs.Orientation.{centerDot, lessForward, dirFwd, voteOf, dirUpper, orientEntry, fwdAsked, fwdStore, upperAsked, upperStore}
 use Rattle.orient.specs.declared.OrientFwdAft.the-variants.{Airflow, Fwd}
 use Rattle.orient.specs.declared.OrientUpperLower.the-variants.{Upper, Lower}
 use Rattle.lists.specs.Ends.{lastPair, middleLine, facedLine, clipLine, endCamberRay}
@@ -268,7 +269,7 @@ unfolding P1 P2 P3 P4 P5 P6 P7 P8 P9 P10 halvedTimes R U four two line crossing 
     edgesOf edgeHit hitsFrom inserted sortedInto droppedAfter dropped spanOf spanned crossed crossingWith edgeDirection meanDirection vertexDirection atVertex insideEdge atLengthFrom atLength atLengthAsked crossingAsked joinedAsked circleEntry tryAsked
     closestOnAll leastOf leastOfAll nearestOf fractionOn heldPoint measuredTo closestOnEdge lineProjection distOf movedEnds halved circleBetween halving halvedFrom fromLine
     camberPoint numbersOf circleFrom circlesFrom allNumbers stored badCircle anyBad midPointOf lineNormalized rayNormalized rayProjection atDistance shiftedRay halfwayRay circleOn tryInscribed judged triedOn trial
-    next run whole withRoom afterTrial refineMove measure refineStep tmaxFrom tmax storeEntry tmaxAsked frontAndBack centerDot lessForward dirFwd voteOf votesFrom dirUpper orientEntry fwdAsked upperAsked lastPair middleLine facedLine clipLine endCamberRay
+    next run whole withRoom afterTrial refineMove measure refineStep tmaxFrom tmax storeEntry tmaxAsked frontAndBack centerDot lessForward dirFwd voteOf votesFrom majority dirUpper orientEntry fwdAsked upperAsked lastPair middleLine facedLine clipLine endCamberRay
     gapOf capPoint capIntersection aheadOf turnedTo acrossRay probeLine probed movedPoint afterMove afterRefined afterProbe oneRound onward rounds edgeEntry startAtEnd fitStart fitFrom fitReported fitted fitAfter
 steps-hold = (refl, (refl, (refl, (refl, (refl, (refl, (refl, (refl, (refl, (refl, tt))))))))))
 
@@ -278,7 +279,7 @@ unfolding P11 P12 halvedTimes R U four two line crossing vector circle unused pa
     edgesOf edgeHit hitsFrom inserted sortedInto droppedAfter dropped spanOf spanned crossed crossingWith edgeDirection meanDirection vertexDirection atVertex insideEdge atLengthFrom atLength atLengthAsked crossingAsked joinedAsked circleEntry tryAsked
     closestOnAll leastOf leastOfAll nearestOf fractionOn heldPoint measuredTo closestOnEdge lineProjection distOf movedEnds halved circleBetween halving halvedFrom fromLine
     camberPoint numbersOf circleFrom circlesFrom allNumbers stored badCircle anyBad midPointOf lineNormalized rayNormalized rayProjection atDistance shiftedRay halfwayRay circleOn tryInscribed judged triedOn trial
-    next run whole withRoom afterTrial refineMove measure refineStep tmaxFrom tmax storeEntry tmaxAsked frontAndBack centerDot lessForward dirFwd voteOf votesFrom dirUpper orientEntry fwdAsked upperAsked lastPair middleLine facedLine clipLine endCamberRay
+    next run whole withRoom afterTrial refineMove measure refineStep tmaxFrom tmax storeEntry tmaxAsked frontAndBack centerDot lessForward dirFwd voteOf votesFrom majority dirUpper orientEntry fwdAsked upperAsked lastPair middleLine facedLine clipLine endCamberRay
     gapOf capPoint capIntersection aheadOf turnedTo acrossRay probeLine probed movedPoint afterMove afterRefined afterProbe oneRound onward rounds edgeEntry startAtEnd fitStart fitFrom fitReported fitted fitAfter
 fits-hold = (refl, (refl, tt))
 

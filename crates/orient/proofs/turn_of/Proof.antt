@@ -1,13 +1,14 @@
 -- `turn_of` makes the case's check; an airflow vector is negated. Assumes nothing.
 use borrow.Author.Needs.{needs}
+use Rattle.orient.specs.Orientation.{tmaxFwd}
 use Rattle.orient.proofs.turn_of.Statement.{statement}
 use Rattle.orient.proofs.turn_of.Tie as tie
 
 enum-told : tie.Need-enum-told
 enum-told c = search needs
 
-check-tmax-fwd-requires : tie.Need-check-tmax-fwd-requires
-check-tmax-fwd-requires c κs = search needs
+check-on-camber-requires : tie.Need-check-on-camber-requires
+check-on-camber-requires c κs = search needs
 
 enum-known-how : tie.Need-enum-known-how
 enum-known-how c = search needs
@@ -25,7 +26,8 @@ check-dir-fwd-requires-2 : tie.Need-check-dir-fwd-requires-2
 check-dir-fwd-requires-2 c κs = search needs
 
 returns : tie.Need-returns
-returns c = rw (c .before .enum-told .given .1) (c .check-tmax-fwd .ensures)
+unfolding tmaxFwd
+returns c = rw (c .before .enum-told .given .1) (c .check-on-camber .ensures)
 
 returns-2 : tie.Need-returns-2
 returns-2 c = rw (c .before .before .before .how .given .1, ← (c .before .negated .ensures)) (c .check-dir-fwd .ensures)
@@ -38,7 +40,7 @@ turn-of-spec =
     tie.close
     (tie.spec
     enum-told
-    check-tmax-fwd-requires
+    check-on-camber-requires
     enum-known-how
     negated-requires
     check-dir-fwd-requires

@@ -1,8 +1,8 @@
 -- `at_length` refuses a length off the curve first. Assumes nothing.
 use borrow.Author.Needs.{needs}
 use Rattle.sections.specs.Places.{atLength}
-use Rattle.sections.proofs.lengths.at_length.Statement.{statement}
-use Rattle.sections.proofs.lengths.at_length.Tie as tie
+use Rattle.sections.proofs.checked.at_length.Statement.{statement}
+use Rattle.sections.proofs.checked.at_length.Tie as tie
 
 returns : tie.Need-returns
 unfolding atLength
