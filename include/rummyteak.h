@@ -116,8 +116,8 @@ uint32_t rummyteak_length_along(const double *section, size_t section_len, doubl
                                 double *length);
 
 /* Where a line crosses the section: crossing is 4 numbers, origin and direction from the first hit to the second; edges is 2,
- * the edges of the first hit and the second. The joined crossing counts hits nearer than 1e-8 to the last kept one as one
- * with it, and tells the kept hits' edges. */
+ * the edges of the first hit and the second. The joined crossing counts a hit nearer than 1e-8 to the last kept one as one
+ * with it where their edges are neighbours, as last and first edge of a closed section are, and tells the kept hits' edges. */
 uint32_t rummyteak_crossing_line(const double *section, size_t section_len, double tol, double ox, double oy, double dx,
                                  double dy, double *crossing, size_t *edges);
 uint32_t rummyteak_joined_crossing(const double *section, size_t section_len, double tol, double ox, double oy,

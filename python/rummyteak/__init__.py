@@ -350,7 +350,7 @@ def crossing_line(section: Points, tol: float, line: Line) -> Crossing:
 
 
 def joined_crossing(section: Points, tol: float, line: Line) -> Crossing:
-    """The same with hits near each other counted as one."""
+    """The same with near hits on neighbouring edges counted as one."""
     return _crossing("joined_crossing", section, tol, line)
 
 

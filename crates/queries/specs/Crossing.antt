@@ -5,8 +5,9 @@ use mathlib.Core.Option.{Option, some, none}
 use lib.Ieee.{Float}
 use Rattle.errors.specs.Answer.{Answer, result, refusal, _>>=_}
 use Rattle.line2.specs.Lines.{lineThrough, atParam}
+use Rattle.curve2.specs.Section.{isClosed}
 use Rattle.line2.specs.declared.Line2.{Line2}
-use Rattle.queries.specs.Hits.{hitsOf, sorted, dropped, nearby, nearbyOnEdge}
+use Rattle.queries.specs.Hits.{lastEdge, hitsOf, sorted, dropped, nearbyOnEdge, nearbyNeighbour}
 use Rattle.queries.specs.declared.Hit.{Hit}
 use Rattle.queries.specs.declared.HitEdges.{HitEdges}
 use Rattle.queries.specs.declared.Crossing.{Crossing}
@@ -49,9 +50,9 @@ crossingWith near ns l = hitsOf ns l >>= λ hs. crossed l (spanOf (dropped near 
 abbrev pub crossingOf : List Float → Line2 → Answer (Option Crossing)
 crossingOf ns l = crossingWith nearbyOnEdge ns l
 
--- "as above, but a hit nearer than 1e-8 in fraction to the last kept hit is dropped, on any edge"
-abbrev pub joinedCrossingOf : List Float → Line2 → Answer (Option Crossing)
-joinedCrossingOf ns l = crossingWith nearby ns l
+-- "as above, but a hit nearer than 1e-8 in fraction to the last kept hit is dropped"; 02 (d): only if the last kept hit is on a neighbouring edge. The section is closed by its tolerance.
+abbrev pub joinedCrossingOf : List Float → Float → Line2 → Answer (Option Crossing)
+joinedCrossingOf ns tol l = crossingWith (nearbyNeighbour (isClosed ns tol) (lastEdge ns)) ns l
 
 -- 8: "a line asked for directly, or a start line, has not exactly two hits"
 abbrev pub orNoCrossing : Option Crossing → Answer Crossing

@@ -1,9 +1,10 @@
 -- Leaf rule "Hits": "every edge is tried, in edge order"; and the steps on them: "Hits are sorted, ties in edge order; a neighbour on the same edge and nearer than 1e-8 is dropped." Assumes nothing.
-use mathlib.Core.Bool.{Bool, _&&_, cond}
+use mathlib.Core.Bool.{Bool, _&&_, _||_, cond}
 use mathlib.Core.List.{List, [], _∷_}
 use mathlib.Core.Option.{Option, some, none}
-use Prim.Native.Nat.{ℕ, suc}
+use Prim.Native.Nat.{ℕ, suc, _-_}
 use lib.Dec.{eqb}
+use lib.ListN.{length}
 use lib.Ieee.{Float, lt, le, ofBits, binary64}
 use Rattle.errors.specs.Answer.{Answer, result, _>>=_}
 use Rattle.points.specs.Numbers.{_-f_, f0, f1, isWithin}
@@ -29,6 +30,10 @@ edgesOf (p ∷ (q ∷ ps)) = record { a = p; b = q } ∷ edgesOf (q ∷ ps)
 
 abbrev pub sectionEdges : List Float → List Edge
 sectionEdges ns = edgesOf (pointsOf ns)
+
+-- the number of the last edge
+abbrev pub lastEdge : List Float → ℕ
+lastEdge ns = length (sectionEdges ns) - 1
 
 -- ---- hits
 
@@ -80,6 +85,20 @@ nearby g h = isWithin small (h .t -f g .t)
 
 abbrev pub nearbyOnEdge : Hit → Hit → Bool
 nearbyOnEdge g h = eqb (g .edge) (h .edge) && nearby g h
+
+-- 02 (d): neighbouring edges are those whose numbers differ by one, "last and first edge of a closed section being neighbours"
+abbrev pub follows : ℕ → ℕ → Bool
+follows i j = eqb (suc i) j
+
+abbrev pub acrossSeam : ℕ → ℕ → ℕ → Bool
+acrossSeam last i j = eqb i last && eqb j 0
+
+unfoldable pub neighbours : Bool → ℕ → ℕ → ℕ → Bool
+neighbours closed last i j = (follows i j || follows j i) || (closed && (acrossSeam last i j || acrossSeam last j i))
+
+-- "it drops a hit only if the last kept hit is on a neighbouring edge as well"
+unfoldable pub nearbyNeighbour : Bool → ℕ → Hit → Hit → Bool
+nearbyNeighbour closed last g h = nearby g h && neighbours closed last (g .edge) (h .edge)
 
 unfoldable pub droppedAfter : (Hit → Hit → Bool) → Hit → List Hit → List Hit
 droppedAfter near g [] = []

@@ -19,6 +19,7 @@ use points::segment2::EdgePointAnswer;
 ghost use mathlib.Core.Path.{_≡_};
 ghost use mathlib.Core.Option.{some};
 ghost use Rattle.curve2.specs.Entry.{HasPoints};
+ghost use Rattle.queries.specs.Hits.{lastEdge};
 ghost use Rattle.queries.specs.Crossing.{span, crossed, crossingOf, joinedCrossingOf, listedCrossing};
 ghost use Rattle.queries.specs.Nearest.{nearestOf, listedNearest};
 
@@ -63,15 +64,25 @@ pub fn crossing_line(section: &[f64], line: Line2) -> CrossingAnswer
     }
 }
 
-// The crossing of a line with exactly two hits, where hits nearer than 1e-8 to the last kept one are dropped.
-pub fn joined_crossing(section: &[f64], line: Line2) -> CrossingAnswer
+// The number of a section's last edge.
+fn last_edge(section: &[f64]) -> usize
     requires { ⌜ HasPoints (now section) ⌝ }
-    ensures { λ r. ⌜ listedCrossing r ≡ joinedCrossingOf (now (section .entry)) line ⌝ }
+    ensures { λ r. ⌜ r ≡ lastEdge (now (section .entry)) ⌝ }
 {
+    section.len() / 2 - 2
+}
+
+// The crossing of a line with exactly two hits, where hits nearer than 1e-8 to the last kept one, and on a neighbouring edge, are dropped.
+pub fn joined_crossing(section: &[f64], tol: f64, line: Line2) -> CrossingAnswer
+    requires { ⌜ HasPoints (now section) ⌝ }
+    ensures { λ r. ⌜ listedCrossing r ≡ joinedCrossingOf (now (section .entry)) tol line ⌝ }
+{
+    let closed = curve2::checked::is_closed(section, tol);
+    let last = last_edge(section);
     let mut ts = [0.0; MOST_EDGES];
     let mut es = [0; MOST_EDGES];
     match joined::sorted_hits(section, line, &mut ts, &mut es) {
-        CountAnswer::Value(n) => match joined::kept_hits(&ts, &es, n) {
+        CountAnswer::Value(n) => match joined::kept_hits(&ts, &es, n, closed, last) {
             Seen::Pair(g, h) => spanned(line, g, h),
             Seen::Nothing => CrossingAnswer::Missed,
             Seen::One(_) => CrossingAnswer::Missed,

@@ -1,4 +1,4 @@
-// The joined crossing: hits near each other count as one. Their fractions are kept sorted in an array, and their edges in another.
+// The joined crossing: hits near each other on neighbouring edges count as one. Their fractions are kept sorted in an array, and their edges in another.
 use crate::Hit;
 use crate::hits;
 use crate::hits::HitAnswer;
@@ -11,7 +11,7 @@ ghost use Prim.Native.Nat.{_+_, _≤_, _<_};
 ghost use lib.ListN.{length, getD, take};
 ghost use lib.Ieee.{nan};
 ghost use Rattle.curve2.specs.Entry.{HasPoints};
-ghost use Rattle.queries.specs.Hits.{hit, inserted, nearby, dropped};
+ghost use Rattle.queries.specs.Hits.{hit, inserted, follows as edgeFollows, acrossSeam, neighbours, nearbyNeighbour, dropped};
 ghost use Rattle.queries.specs.Code.{seenOf, placeOf, firstHits, sortedHits, countedHits, hitCount, mostEdges};
 
 // One place for each edge that a section can have.
@@ -97,17 +97,59 @@ fn hit_in(ts: &[f64], es: &[usize], k: usize) -> Hit
     Hit { t, edge }
 }
 
-// Whether a hit is near the last kept one.
-fn is_near(last: Hit, h: Hit) -> bool
-    ensures { λ r. ⌜ r ≡ nearby last h ⌝ }
+// Whether edge j comes behind edge i.
+fn follows(i: usize, j: usize) -> bool
+    ensures { λ r. ⌜ r ≡ edgeFollows i j ⌝ }
 {
-    points::is_within(1e-8, h.t - last.t)
+    if j == 0 {
+        return false;
+    }
+    i == j - 1
 }
 
-// What is seen of the first n, those near the last kept one dropped.
-pub(crate) fn kept_hits(ts: &[f64], es: &[usize], n: usize) -> Seen
+// Whether edge i is the last and j the first.
+fn is_across_seam(last: usize, i: usize, j: usize) -> bool
+    ensures { λ r. ⌜ r ≡ acrossSeam last i j ⌝ }
+{
+    if i == last {
+        return j == 0;
+    }
+    false
+}
+
+// Whether two edges are neighbours; last and first edge of a closed section are.
+fn are_neighbours(closed: bool, last: usize, i: usize, j: usize) -> bool
+    ensures { λ r. ⌜ r ≡ neighbours closed last i j ⌝ }
+{
+    if follows(i, j) {
+        return true;
+    }
+    if follows(j, i) {
+        return true;
+    }
+    if !closed {
+        return false;
+    }
+    if is_across_seam(last, i, j) {
+        return true;
+    }
+    is_across_seam(last, j, i)
+}
+
+// Whether a hit is near the last kept one, g, and on a neighbouring edge.
+fn is_near(closed: bool, last: usize, g: Hit, h: Hit) -> bool
+    ensures { λ r. ⌜ r ≡ nearbyNeighbour closed last g h ⌝ }
+{
+    if points::is_within(1e-8, h.t - g.t) {
+        return are_neighbours(closed, last, g.edge, h.edge);
+    }
+    false
+}
+
+// What is seen of the first n, those near the last kept one and on a neighbouring edge dropped.
+pub(crate) fn kept_hits(ts: &[f64], es: &[usize], n: usize, closed: bool, last_edge: usize) -> Seen
     requires { ⌜ (n ≤ length (now ts)) × (n ≤ length (now es)) ⌝ }
-    ensures { λ r. ⌜ r ≡ seenOf (dropped nearby (firstHits n (now (ts .entry)) (now (es .entry)))) ⌝ }
+    ensures { λ r. ⌜ r ≡ seenOf (dropped (nearbyNeighbour closed «last_edge») (firstHits n (now (ts .entry)) (now (es .entry)))) ⌝ }
 {
     if n == 0 {
         return Seen::Nothing;
@@ -117,7 +159,7 @@ pub(crate) fn kept_hits(ts: &[f64], es: &[usize], n: usize) -> Seen
     let mut k: usize = 1;
     while k < n {
         let h = hit_in(ts, es, k);
-        if !is_near(last, h) {
+        if !is_near(closed, last_edge, last, h) {
             seen = hits::added(seen, h);
             last = h;
         }

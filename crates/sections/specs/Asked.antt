@@ -72,7 +72,7 @@ unfoldable pub crossingAsked : List Float → Float → Line2 → Answer Crossin
 crossingAsked ns tol l = sectionEntry ns tol (withNumber (finiteLine l)) >>= λ passed. crossingOn ns l
 
 unfoldable pub joinedAsked : List Float → Float → Line2 → Answer Crossing
-joinedAsked ns tol l = sectionEntry ns tol (withNumber (finiteLine l)) >>= λ passed. joinedCrossingOf ns l >>= orNoCrossing
+joinedAsked ns tol l = sectionEntry ns tol (withNumber (finiteLine l)) >>= λ passed. joinedCrossingOf ns tol l >>= orNoCrossing
 
 -- ---- what the answers list: the result, or the refusal
 

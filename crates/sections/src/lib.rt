@@ -179,13 +179,13 @@ pub fn crossing_line(section: &[f64], tol: f64, line: Line2) -> CrossingAsked
     }
 }
 
-// The same, where hits nearer than 1e-8 to the last kept one count as one with it.
+// The same, where hits nearer than 1e-8 to the last kept one, and on a neighbouring edge, count as one with it.
 pub fn joined_crossing(section: &[f64], tol: f64, line: Line2) -> CrossingAsked
     ensures { λ r. ⌜ listedCrossingAsked r ≡ joinedAsked (now (section .entry)) tol line ⌝ }
 {
     let good = is_finite_line(line);
     match entered(section, tol, !good, false) {
-        Entry::Passed => queries::asked(queries::checked::joined_crossing(section, line)),
+        Entry::Passed => queries::asked(queries::checked::joined_crossing(section, tol, line)),
         Entry::Refused(r) => CrossingAsked::Refused(r),
     }
 }

@@ -7,15 +7,17 @@ use Prim.Native.Nat.{ℕ, zero, suc, _+_, _-_, _≤_, _<_}
 use native.Mathlib.Nat.{add-zero, le-refl}
 use native.Mathlib.Numerals.{add-one}
 use native.Mathlib.Omega.{arith}
+use borrow.Author.Tests.{eqb-true, eqb-false, eq-eqb, ne-eqb}
+use lib.Dec.{eqb}
 use lib.ListN.{length, getD, take, drop, set, length-append, length-drop, take-append-drop, drop-of-length-le}
 use lib.Seq.{drop-cons, take-suc, length-take-le, take-at, drop-at, getD-at, take-append-add, getD-append-add, getD-take, getD-drop, take-add, set-at, append-snoc}
 use lib.Ieee.{Float, nan, lt}
 use Rattle.errors.specs.Answer.{Answer, result, refusal, _>>=_}
 use Rattle.line2.specs.declared.Line2.{Line2}
-use Rattle.queries.specs.Hits.{sectionEdges, hit, hitsFrom, inserted, sortedInto, sorted, nearby, droppedAfter, dropped}
+use Rattle.queries.specs.Hits.{sectionEdges, hit, hitsFrom, inserted, sortedInto, sorted, droppedAfter, dropped}
 use Rattle.queries.specs.declared.Hit.{Hit}
 use Rattle.queries.specs.Code.{addedTo, seenOf, placeOf, paired, firstHits, sortedHits}
-use Rattle.queries.specs.Crossing.{Span, span, spanOf, crossed, crossingWith, joinedCrossingOf}
+use Rattle.queries.specs.Crossing.{Span, span, spanOf, crossed, crossingWith}
 use Rattle.queries.specs.declared.hits.Seen.{Seen}
 use Rattle.queries.proofs.hits.PassLaws.{gathered, passLeft}
 use Rattle.queries.proofs.hits.SeenLaws.{after-nothing}
@@ -165,11 +167,11 @@ sorted-start ns l ts es = go (hitsFrom l 0 (sectionEdges ns))
 
 -- ---- those kept
 
--- what is seen, and then what is kept of those from k on
-abbrev pub keptLeft : List Hit → ℕ → Hit → Seen → Seen
-keptLeft hs k last seen = gathered addedTo seen (droppedAfter nearby last (drop k hs))
+-- what is seen, and then what is kept of those from k on, whichever hits are near
+abbrev pub keptLeft : (Hit → Hit → Bool) → List Hit → ℕ → Hit → Seen → Seen
+keptLeft near hs k last seen = gathered addedTo seen (droppedAfter near last (drop k hs))
 
-module _ (ts : List Float) (es : List ℕ) (n : ℕ) (room : n ≤ length ts) (roomEdges : n ≤ length es) where
+module _ (near : Hit → Hit → Bool) (ts : List Float) (es : List ℕ) (n : ℕ) (room : n ≤ length ts) (roomEdges : n ≤ length es) where
   abbrev hs : List Hit
   hs = firstHits n ts es
 
@@ -184,27 +186,27 @@ module _ (ts : List Float) (es : List ℕ) (n : ℕ) (room : n ≤ length ts) (r
       let e : getD hs k (hit nan 0) ≡ hit (getD ts k nan) (getD es k 0) = getD-paired (take n ts) (take n es) k same ∙ rw (getD-take n ts k nan h, getD-take n es k 0 h) in
       rw (add-one k) (drop-cons hs k (hit nan 0) (omega (arith, long-hs)) ∙ ap (λ (x : Hit). x ∷ drop (suc k) hs) e)
 
-  module _ (k : ℕ) (last : Hit) (seen whole : Seen) (inv : keptLeft hs k last seen ≡ whole) (h : Hit) (is : h ≡ hit (getD ts k nan) (getD es k 0)) where
-    pub kept-dropped : k < n → nearby last h ≡ true → keptLeft hs (k + 1) last seen ≡ whole
+  module _ (k : ℕ) (last : Hit) (seen whole : Seen) (inv : keptLeft near hs k last seen ≡ whole) (h : Hit) (is : h ≡ hit (getD ts k nan) (getD es k 0)) where
+    pub kept-dropped : k < n → near last h ≡ true → keptLeft near hs (k + 1) last seen ≡ whole
     unfolding droppedAfter
     kept-dropped b p = let e : drop k hs ≡ h ∷ drop (k + 1) hs = rw is (step k b) in rw (e, p) at inv
 
-    pub kept-more : k < n → nearby last h ≡ false → keptLeft hs (k + 1) h (addedTo seen h) ≡ whole
+    pub kept-more : k < n → near last h ≡ false → keptLeft near hs (k + 1) h (addedTo seen h) ≡ whole
     unfolding droppedAfter gathered
     kept-more b p = let e : drop k hs ≡ h ∷ drop (k + 1) hs = rw is (step k b) in rw (e, p) at inv
 
-  pub kept-end : (k : ℕ) (last : Hit) (seen whole : Seen) → keptLeft hs k last seen ≡ whole → n ≤ k → seen ≡ whole
+  pub kept-end : (k : ℕ) (last : Hit) (seen whole : Seen) → keptLeft near hs k last seen ≡ whole → n ≤ k → seen ≡ whole
   unfolding droppedAfter gathered
   kept-end k last seen whole inv h =
       let short : length hs ≤ k = omega (arith, long-hs) in
       rw (drop-of-length-le hs short) at inv
 
-  pub kept-start : 0 < n → (h : Hit) → h ≡ hit (getD ts 0 nan) (getD es 0 0) → keptLeft hs 1 h (Seen.One h) ≡ seenOf (dropped nearby hs)
+  pub kept-start : 0 < n → (h : Hit) → h ≡ hit (getD ts 0 nan) (getD es 0 0) → keptLeft near hs 1 h (Seen.One h) ≡ seenOf (dropped near hs)
   unfolding dropped
   kept-start b h is =
       let e : hs ≡ h ∷ drop 1 hs = rw is (step 0 b) in
-      let f : keptLeft hs 1 h (Seen.One h) ≡ seenOf (h ∷ droppedAfter nearby h (drop 1 hs)) = unfold gathered addedTo in after-nothing (h ∷ droppedAfter nearby h (drop 1 hs)) in
-      f ∙ sym (ap (λ (x : List Hit). seenOf (dropped nearby x)) e)
+      let f : keptLeft near hs 1 h (Seen.One h) ≡ seenOf (h ∷ droppedAfter near h (drop 1 hs)) = unfold gathered addedTo in after-nothing (h ∷ droppedAfter near h (drop 1 hs)) in
+      f ∙ sym (ap (λ (x : List Hit). seenOf (dropped near x)) e)
 
 -- two in order are a span
 abbrev pub spanKept : Seen → Option Span
@@ -220,10 +222,20 @@ span-kept (g ∷ []) = refl
 span-kept (g ∷ (h ∷ [])) = refl
 span-kept (g ∷ (h ∷ (k ∷ hs))) = refl
 
-pub joined-kept : (ns : List Float) (l : Line2) → (sortedHits ns l >>= λ hs. crossed l (spanKept (seenOf (dropped nearby hs)))) ≡ joinedCrossingOf ns l
+pub joined-kept : (near : Hit → Hit → Bool) (ns : List Float) (l : Line2) → (sortedHits ns l >>= λ hs. crossed l (spanKept (seenOf (dropped near hs)))) ≡ crossingWith near ns l
 unfolding crossingWith
-joined-kept ns l = go (hitsFrom l 0 (sectionEdges ns))
+joined-kept near ns l = go (hitsFrom l 0 (sectionEdges ns))
   where
-    go : (a : Answer (List Hit)) → ((a >>= λ hs. result (sorted hs)) >>= λ hs. crossed l (spanKept (seenOf (dropped nearby hs)))) ≡ (a >>= λ hs. crossed l (spanOf (dropped nearby (sorted hs))))
+    go : (a : Answer (List Hit)) → ((a >>= λ hs. result (sorted hs)) >>= λ hs. crossed l (spanKept (seenOf (dropped near hs)))) ≡ (a >>= λ hs. crossed l (spanOf (dropped near (sorted hs))))
     go (refusal n) = refl
-    go (result hs) = rw (span-kept (dropped nearby (sorted hs)))
+    go (result hs) = rw (span-kept (dropped near (sorted hs)))
+
+-- ---- neighbouring edges
+
+-- j's predecessor is i where j is i's successor
+pub follows-before : (i j : ℕ) → (j ≡ 0 → ⊥) → eqb i (j - 1) ≡ eqb (suc i) j
+follows-before i j h = go (eqb (suc i) j) refl
+  where
+    go : (b : Bool) → eqb (suc i) j ≡ b → eqb i (j - 1) ≡ b
+    go true e = eq-eqb i (j - 1) (let p = eqb-true (suc i) j e in omega (arith, p))
+    go false e = ne-eqb i (j - 1) (λ q. eqb-false (suc i) j e (omega (arith, q, h)))

@@ -12,6 +12,12 @@ slice-aggregate-sorted-hits c = search needs
 slice-aggregate-sorted-hits-2 : tie.Need-slice-aggregate-sorted-hits-2
 slice-aggregate-sorted-hits-2 c = search needs
 
+is-closed-requires : tie.Need-is-closed-requires
+is-closed-requires c κs = search needs
+
+last-edge-requires : tie.Need-last-edge-requires
+last-edge-requires c κs = search needs
+
 sorted-hits-requires : tie.Need-sorted-hits-requires
 sorted-hits-requires c κs = search needs
 
@@ -49,30 +55,32 @@ enum-known-r c = search needs
 
 returns : tie.Need-returns
 returns c = let at = c .before .before .before .before .before .before .before .before in
-    rw (← (joined-kept _ _), ← (rw (at .n .given .1) at (at .before .before .before .before .sorted-hits .ensures .0)), ← (c .before .before .before .before .kept-hits .ensures), c .before .before .g .given .1) (c .spanned .ensures)
+    rw (← (c .before .before .before .before .before .before .before .before .before .before .before .before .before .before .before .before .is-closed .ensures), ← (c .before .before .before .before .before .before .before .before .before .before .before .before .before .before .before .last-edge .ensures), ← (joined-kept _ _ _), ← (rw (at .n .given .1) at (at .before .before .before .before .sorted-hits .ensures .0)), ← (c .before .before .before .before .kept-hits .ensures), c .before .before .g .given .1) (c .spanned .ensures)
 
 returns-2 : tie.Need-returns-2
 unfolding crossed
 returns-2 c = let at = c .before .before .before .before .before .before in
-    rw (← (joined-kept _ _), ← (rw (at .n .given .1) at (at .before .before .before .before .sorted-hits .ensures .0)), ← (c .before .before .kept-hits .ensures), c .enum-told .given .1)
+    rw (← (c .before .before .before .before .before .before .before .before .before .before .before .before .before .before .is-closed .ensures), ← (c .before .before .before .before .before .before .before .before .before .before .before .before .before .last-edge .ensures), ← (joined-kept _ _ _), ← (rw (at .n .given .1) at (at .before .before .before .before .sorted-hits .ensures .0)), ← (c .before .before .kept-hits .ensures), c .enum-told .given .1)
 
 returns-3 : tie.Need-returns-3
 unfolding crossed
 returns-3 c = let at = c .before .before .before .before .before .before in
-    rw (← (joined-kept _ _), ← (rw (at .n .given .1) at (at .before .before .before .before .sorted-hits .ensures .0)), ← (c .before .before .kept-hits .ensures), c .enum-told2 .given .1)
+    rw (← (c .before .before .before .before .before .before .before .before .before .before .before .before .before .before .is-closed .ensures), ← (c .before .before .before .before .before .before .before .before .before .before .before .before .before .last-edge .ensures), ← (joined-kept _ _ _), ← (rw (at .n .given .1) at (at .before .before .before .before .sorted-hits .ensures .0)), ← (c .before .before .kept-hits .ensures), c .enum-told2 .given .1)
 
 returns-4 : tie.Need-returns-4
 unfolding crossed
 returns-4 c = let at = c .before .before .before .before .before .before in
-    rw (← (joined-kept _ _), ← (rw (at .n .given .1) at (at .before .before .before .before .sorted-hits .ensures .0)), ← (c .before .before .kept-hits .ensures), c .enum-told3 .given .1)
+    rw (← (c .before .before .before .before .before .before .before .before .before .before .before .before .before .before .is-closed .ensures), ← (c .before .before .before .before .before .before .before .before .before .before .before .before .before .last-edge .ensures), ← (joined-kept _ _ _), ← (rw (at .n .given .1) at (at .before .before .before .before .sorted-hits .ensures .0)), ← (c .before .before .kept-hits .ensures), c .enum-told3 .given .1)
 
 returns-5 : tie.Need-returns-5
-returns-5 c = rw (← (joined-kept _ _), ← (rw (c .before .r .given .1) at (c .before .before .before .before .before .sorted-hits .ensures .0)))
+returns-5 c = rw (← (c .before .before .before .before .before .before .before .before .before .is-closed .ensures), ← (c .before .before .before .before .before .before .before .before .last-edge .ensures), ← (joined-kept _ _ _), ← (rw (c .before .r .given .1) at (c .before .before .before .before .before .sorted-hits .ensures .0)))
 
 pub joined-crossing-spec : {M : Type 1} → statement M
 joined-crossing-spec =
     tie.close
     (tie.spec
+    is-closed-requires
+    last-edge-requires
     slice-aggregate-sorted-hits
     slice-aggregate-sorted-hits-2
     sorted-hits-requires
