@@ -5,7 +5,7 @@ use Prim.Native.Nat.{ℕ, _<_}
 use native.Mathlib.Omega.{arith}
 use lib.ListN.{length}
 use Rattle.errors.specs.Answer.{Answer, result, refusal, _>>=_}
-use Rattle.queries.specs.Hits.{sectionEdges, nearbyOnEdge}
+use Rattle.queries.specs.Hits.{sectionEdges}
 use Rattle.queries.specs.Crossing.{crossingOn}
 use Rattle.queries.specs.declared.Crossing.{Crossing}
 use Rattle.queries.specs.declared.HitEdges.{HitEdges}
@@ -30,7 +30,7 @@ march-edges m e told = go (marchEntry m) told
     found : (x : Crossing) → crossingOn (m .section) (m .line) ≡ result x → EdgesOf m (x .edges)
     found x p =
         let there = crossing-there (m .section) (m .line) x p in
-        let below = crossing-edges-below nearbyOnEdge (m .section) (m .line) x there in
+        let below = crossing-edges-below (m .section) (m .line) x there in
         (below .0, below .1, crossing-edges-differ (m .section) (m .line) x there)
 
     go : (a : Answer (Unit {0})) → foundEdges (a >>= λ passed. crossingOn (m .section) (m .line)) ≡ some e → EdgesOf m e

@@ -1,18 +1,17 @@
--- One pass gives the crossing: every edge has one hit at most, so the pass over near hits on one edge drops none, and two hits are in order or swapped. Assumes nothing.
+-- One pass gives the crossing: two hits are in order or swapped. Every edge has one hit at most, so the edges of a crossing differ. Assumes nothing.
 use mathlib.Core.Path.{_≡_, refl, sym, ap}
 use mathlib.Core.Bool.{Bool, true, false, cond}
 use mathlib.Core.List.{List, [], _∷_}
 use mathlib.Core.Option.{Option, some, none}
 use Prim.Native.Nat.{ℕ, suc, _+_, _≤_, _<_}
 use native.Mathlib.Omega.{arith}
-use borrow.Author.Tests.{ne-eqb}
 use lib.ListN.{length}
 use lib.Ieee.{Float, lt}
 use Rattle.errors.specs.Answer.{Answer, result, refusal, _>>=_}
 use Rattle.points.specs.declared.Point2.{Point2}
 use Rattle.line2.specs.Lines.{lineThrough, atParam}
 use Rattle.line2.specs.declared.Line2.{Line2}
-use Rattle.queries.specs.Hits.{Edge, sectionEdges, hit, edgeHit, joinedTo, hitsFrom, inserted, sortedInto, sorted, nearbyOnEdge, droppedAfter, dropped}
+use Rattle.queries.specs.Hits.{Edge, sectionEdges, hit, edgeHit, joinedTo, hitsFrom, inserted, sortedInto, sorted, droppedAfter, dropped}
 use Rattle.queries.specs.Code.{seenOf, seenHits}
 use Rattle.queries.specs.declared.Hit.{Hit}
 use Rattle.queries.specs.Crossing.{Span, span, spanEdges, spanOf, spanned, crossed, crossingWith, crossingOf, orNoCrossing, crossingOn}
@@ -25,15 +24,15 @@ abbrev Below : ℕ → List Hit → Type 0
 Below k [] = Unit {0}
 Below k (h ∷ hs) = (h .edge < k) × Below k hs
 
-abbrev Rising : ℕ → List Hit → Type 0
+abbrev pub Rising : ℕ → List Hit → Type 0
 Rising k [] = Unit {0}
 Rising k (h ∷ hs) = (k ≤ h .edge) × Rising (suc (h .edge)) hs
 
-abbrev Other : ℕ → List Hit → Type 0
+abbrev pub Other : ℕ → List Hit → Type 0
 Other k [] = Unit {0}
 Other k (h ∷ hs) = ((k ≡ h .edge) → ⊥) × Other k hs
 
-abbrev Distinct : List Hit → Type 0
+abbrev pub Distinct : List Hit → Type 0
 Distinct [] = Unit {0}
 Distinct (h ∷ hs) = Other (h .edge) hs × Distinct hs
 
@@ -51,7 +50,7 @@ other-below k j (g ∷ hs) h b = (λ e. omega arith, other-below k j hs h (b .1)
 
 -- ---- the hits of the edges from k on rise
 
-hits-rise : (l : Line2) (k : ℕ) (es : List Edge) (hs : List Hit) → hitsFrom l k es ≡ result hs → Rising k hs
+pub hits-rise : (l : Line2) (k : ℕ) (es : List Edge) (hs : List Hit) → hitsFrom l k es ≡ result hs → Rising k hs
 unfolding hitsFrom
 hits-rise l k [] hs e = rw (same e) tt
   where
@@ -94,7 +93,7 @@ distinct-inserted h (g ∷ gs) o d = go (lt (h .t) (g .t)) (distinct-inserted h 
     go true ih = (o, d)
     go false ih = (other-inserted (g .edge) h gs (λ e. o .0 (sym e)) (d .0), ih)
 
-distinct-sorted : (k : ℕ) (gs hs : List Hit) → Below k gs → Distinct gs → Rising k hs → Distinct (sortedInto gs hs)
+pub distinct-sorted : (k : ℕ) (gs hs : List Hit) → Below k gs → Distinct gs → Rising k hs → Distinct (sortedInto gs hs)
 unfolding sortedInto
 distinct-sorted k gs [] b d r = d
 distinct-sorted k gs (h ∷ hs) b d r =
@@ -103,19 +102,7 @@ distinct-sorted k gs (h ∷ hs) b d r =
     (distinct-inserted h gs (other-below k (h .edge) gs (r .0) b) d)
     (r .1)
 
--- ---- so none is dropped
-
-none-dropped-after : (g : Hit) (hs : List Hit) → Other (g .edge) hs → Distinct hs → droppedAfter nearbyOnEdge g hs ≡ hs
-unfolding droppedAfter
-none-dropped-after g [] o d = refl
-none-dropped-after g (h ∷ hs) o d = rw (ne-eqb (g .edge) (h .edge) (o .0)) (ap (λ (x : List Hit). h ∷ x) (none-dropped-after h hs (d .0) (d .1)))
-
-none-dropped : (hs : List Hit) → Distinct hs → dropped nearbyOnEdge hs ≡ hs
-unfolding dropped
-none-dropped [] d = refl
-none-dropped (h ∷ hs) d = ap (λ (x : List Hit). h ∷ x) (none-dropped-after h hs (d .0) (d .1))
-
--- ---- and exactly two remain where there were two
+-- ---- exactly two remain where there were two
 
 length-inserted : (h : Hit) (gs : List Hit) → length (inserted h gs) ≡ suc (length gs)
 unfolding inserted
@@ -157,13 +144,12 @@ span-sorted (g ∷ (h ∷ [])) = go (lt (h .t) (g .t))
 span-sorted (g ∷ (h ∷ (k ∷ hs))) = no-span (sorted (g ∷ (h ∷ (k ∷ hs)))) (omega (arith, length-sorted [] (g ∷ (h ∷ (k ∷ hs)))))
 
 pub crossing-seen : (ns : List Float) (l : Line2) → (seenHits ns l >>= λ s. crossed l (spanSeen s)) ≡ crossingOf ns l
-unfolding crossingWith
-crossing-seen ns l = go (hitsFrom l 0 (sectionEdges ns)) (hits-rise l 0 (sectionEdges ns))
+unfolding crossingOf
+crossing-seen ns l = go (hitsFrom l 0 (sectionEdges ns))
   where
-    go : (a : Answer (List Hit)) → ((hs : List Hit) → a ≡ result hs → Rising 0 hs)
-        → ((a >>= λ hs. result (seenOf hs)) >>= λ s. crossed l (spanSeen s)) ≡ (a >>= λ hs. crossed l (spanOf (dropped nearbyOnEdge (sorted hs))))
-    go (refusal n) r = refl
-    go (result hs) r = rw (none-dropped (sorted hs) (distinct-sorted 0 [] hs tt tt (r hs refl)), span-sorted hs)
+    go : (a : Answer (List Hit)) → ((a >>= λ hs. result (seenOf hs)) >>= λ s. crossed l (spanSeen s)) ≡ (a >>= λ hs. crossed l (spanOf (sorted hs)))
+    go (refusal n) = refl
+    go (result hs) = rw (span-sorted hs)
 
 -- ---- the edges of a crossing are below the count of edges, and of a plain crossing they differ
 
@@ -233,11 +219,11 @@ module _ (l : Line2) (x : Crossing) where
       through (result q) (refusal r) p = let z : _≡_ {A = ℕ} 0 1 = cc in absurd (omega arith)
       through (result q) (result r) p = last (lineThrough q r) p
 
--- "both numbers are below the count of edges", of the plain crossing and of the joined one
-pub crossing-edges-below : (near : Hit → Hit → Bool) (ns : List Float) (l : Line2) (x : Crossing) → crossingWith near ns l ≡ result (some x)
+-- "both numbers are below the count of edges", of a joined crossing, whichever hits are near
+pub joined-edges-below : (near : Hit → Hit → Bool) (ns : List Float) (l : Line2) (x : Crossing) → crossingWith near ns l ≡ result (some x)
     → (x .edges .first < length (sectionEdges ns)) × (x .edges .second < length (sectionEdges ns))
 unfolding crossingWith
-crossing-edges-below near ns l x e = go (hitsFrom l 0 (sectionEdges ns)) (λ hs q. below-more _ (length (sectionEdges ns)) hs (omega arith) (hits-below l 0 (sectionEdges ns) hs q)) e
+joined-edges-below near ns l x e = go (hitsFrom l 0 (sectionEdges ns)) (λ hs q. below-more _ (length (sectionEdges ns)) hs (omega arith) (hits-below l 0 (sectionEdges ns) hs q)) e
   where
     go : (a : Answer (List Hit)) → ((hs : List Hit) → a ≡ result hs → Below (length (sectionEdges ns)) hs) → (a >>= λ hs. crossed l (spanOf (dropped near (sorted hs)))) ≡ result (some x)
         → (x .edges .first < length (sectionEdges ns)) × (x .edges .second < length (sectionEdges ns))
@@ -246,15 +232,27 @@ crossing-edges-below near ns l x e = go (hitsFrom l 0 (sectionEdges ns)) (λ hs 
         let found = crossed-edges l x (spanOf (dropped near (sorted hs))) p in
         rw (found .2) (span-below _ (dropped near (sorted hs)) (found .0) (below-dropped near _ (sorted hs) (below-sorted _ [] hs tt (b hs refl))) (found .1))
 
+-- of the plain one
+pub crossing-edges-below : (ns : List Float) (l : Line2) (x : Crossing) → crossingOf ns l ≡ result (some x) → (x .edges .first < length (sectionEdges ns)) × (x .edges .second < length (sectionEdges ns))
+unfolding crossingOf
+crossing-edges-below ns l x e = go (hitsFrom l 0 (sectionEdges ns)) (λ hs q. below-more _ (length (sectionEdges ns)) hs (omega arith) (hits-below l 0 (sectionEdges ns) hs q)) e
+  where
+    go : (a : Answer (List Hit)) → ((hs : List Hit) → a ≡ result hs → Below (length (sectionEdges ns)) hs) → (a >>= λ hs. crossed l (spanOf (sorted hs))) ≡ result (some x)
+        → (x .edges .first < length (sectionEdges ns)) × (x .edges .second < length (sectionEdges ns))
+    go (refusal r) b p = let z : _≡_ {A = ℕ} 0 1 = cc in absurd (omega arith)
+    go (result hs) b p =
+        let found = crossed-edges l x (spanOf (sorted hs)) p in
+        rw (found .2) (span-below _ (sorted hs) (found .0) (below-sorted _ [] hs tt (b hs refl)) (found .1))
+
 pub crossing-edges-differ : (ns : List Float) (l : Line2) (x : Crossing) → crossingOf ns l ≡ result (some x) → x .edges .first ≡ x .edges .second → ⊥
-unfolding crossingWith
+unfolding crossingOf
 crossing-edges-differ ns l x e = go (hitsFrom l 0 (sectionEdges ns)) (hits-rise l 0 (sectionEdges ns)) e
   where
-    go : (a : Answer (List Hit)) → ((hs : List Hit) → a ≡ result hs → Rising 0 hs) → (a >>= λ hs. crossed l (spanOf (dropped nearbyOnEdge (sorted hs)))) ≡ result (some x) → x .edges .first ≡ x .edges .second → ⊥
+    go : (a : Answer (List Hit)) → ((hs : List Hit) → a ≡ result hs → Rising 0 hs) → (a >>= λ hs. crossed l (spanOf (sorted hs))) ≡ result (some x) → x .edges .first ≡ x .edges .second → ⊥
     go (refusal r) h p q = let z : _≡_ {A = ℕ} 0 1 = cc in absurd (omega arith)
     go (result hs) h p q =
         let apart = distinct-sorted 0 [] hs tt tt (h hs refl) in
-        let found = crossed-edges l x (spanOf (sorted hs)) (rw (none-dropped (sorted hs) apart) at p) in
+        let found = crossed-edges l x (spanOf (sorted hs)) p in
         span-differs (sorted hs) (found .0) apart (found .1) (rw (found .2) at q)
 
 -- a line that must cross has the crossing that it has

@@ -7,7 +7,7 @@ use Rattle.errors.specs.Answer.{Answer, result, refusal, _>>=_}
 use Rattle.line2.specs.Lines.{lineThrough, atParam}
 use Rattle.curve2.specs.Section.{isClosed}
 use Rattle.line2.specs.declared.Line2.{Line2}
-use Rattle.queries.specs.Hits.{lastEdge, hitsOf, sorted, dropped, nearbyOnEdge, nearbyNeighbour}
+use Rattle.queries.specs.Hits.{lastEdge, hitsOf, sorted, dropped, nearbyNeighbour}
 use Rattle.queries.specs.declared.Hit.{Hit}
 use Rattle.queries.specs.declared.HitEdges.{HitEdges}
 use Rattle.queries.specs.declared.Crossing.{Crossing}
@@ -43,12 +43,13 @@ unfolding spanned
 crossed l none = result none
 crossed l (some s) = spanned l s >>= λ c. result (some c)
 
+-- collect, sort, count. 02 (l): a pass over near hits on one edge would drop none (`pass-drops-nothing`, queries/proofs/SameEdge)
+unfoldable pub crossingOf : List Float → Line2 → Answer (Option Crossing)
+crossingOf ns l = hitsOf ns l >>= λ hs. crossed l (spanOf (sorted hs))
+
 -- collect, sort, drop, count
 unfoldable pub crossingWith : (Hit → Hit → Bool) → List Float → Line2 → Answer (Option Crossing)
 crossingWith near ns l = hitsOf ns l >>= λ hs. crossed l (spanOf (dropped near (sorted hs)))
-
-abbrev pub crossingOf : List Float → Line2 → Answer (Option Crossing)
-crossingOf ns l = crossingWith nearbyOnEdge ns l
 
 -- "as above, but a hit nearer than 1e-8 in fraction to the last kept hit is dropped"; 02 (d): only if the last kept hit is on a neighbouring edge. The section is closed by its tolerance.
 abbrev pub joinedCrossingOf : List Float → Float → Line2 → Answer (Option Crossing)

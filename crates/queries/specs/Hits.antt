@@ -1,4 +1,4 @@
--- Leaf rule "Hits": "every edge is tried, in edge order"; and the steps on them: "Hits are sorted, ties in edge order; a neighbour on the same edge and nearer than 1e-8 is dropped." Assumes nothing.
+-- Leaf rule "Hits": "every edge is tried, in edge order"; and the steps on them: "Hits are sorted, ties in edge order". Assumes nothing.
 use mathlib.Core.Bool.{Bool, _&&_, _||_, cond}
 use mathlib.Core.List.{List, [], _∷_}
 use mathlib.Core.Option.{Option, some, none}
@@ -82,9 +82,6 @@ small = ofBits binary64 0x3e45_798e_e230_8c3a
 
 abbrev pub nearby : Hit → Hit → Bool
 nearby g h = isWithin small (h .t -f g .t)
-
-abbrev pub nearbyOnEdge : Hit → Hit → Bool
-nearbyOnEdge g h = eqb (g .edge) (h .edge) && nearby g h
 
 -- 02 (d): neighbouring edges are those whose numbers differ by one, "last and first edge of a closed section being neighbours"
 abbrev pub follows : ℕ → ℕ → Bool

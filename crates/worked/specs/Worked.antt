@@ -18,7 +18,7 @@ use Rattle.curve2.specs.Section.{point, pointsOf, plainDist, endsMeet, isClosed
 use Rattle.curve2.specs.Entry.{badNumbers, crowded, notRising, sectionEntry}
 use Rattle.cleaning.specs.Cleaning.{keptAfter, kept, forcedClosed, curveOf, cleaned}
 use Rattle.queries.specs.Hits.{edgesOf, edgeHit, hitsFrom, inserted, sortedInto, neighbours, nearbyNeighbour, droppedAfter, dropped}
-use Rattle.queries.specs.Crossing.{spanOf, spanned, crossed, crossingWith}
+use Rattle.queries.specs.Crossing.{spanOf, spanned, crossed, crossingOf, crossingWith}
 use Rattle.queries.specs.declared.Crossing.{Crossing}
 use Rattle.queries.specs.Nearest.{closestOnAll, leastOf, leastOfAll, nearestOf}
 use Rattle.points.specs.Closest.{fractionOn, heldPoint, measuredTo, closestOnEdge}
@@ -266,7 +266,7 @@ table = P1 ∷ P2 ∷ P3 ∷ P4 ∷ P5 ∷ P6 ∷ P7 ∷ P8 ∷ P9 ∷ P10 ∷ P
 steps-hold : Holds (P1 ∷ P2 ∷ P3 ∷ P4 ∷ P5 ∷ P6 ∷ P7 ∷ P8 ∷ P9 ∷ P10 ∷ [])
 unfolding P1 P2 P3 P4 P5 P6 P7 P8 P9 P10 halvedTimes R U four two line crossing vector circle unused pairOfU swappedOfU atX onAxis turnedOnAxis edgeOfU numbered fitRan sqrtOf rootOfUnits wholeRoot rootDigits units size span climb odd trailingZeros ofBits ofFields round neg sum add sub mul div lt eq le
     dotOf normOf difference normalized lineThrough atParam intersectionParam pointsOf plainDist isClosed lengthsFrom lengthsOf wholeLength badNumbers crowded notRising sectionEntry keptAfter kept lastOf endsMeet forcedClosed curveOf cleaned
-    edgesOf edgeHit hitsFrom inserted sortedInto neighbours nearbyNeighbour droppedAfter dropped spanOf spanned crossed crossingWith edgeDirection meanDirection vertexDirection atVertex insideEdge atLengthFrom atLength atLengthAsked crossingAsked joinedAsked circleEntry tryAsked
+    edgesOf edgeHit hitsFrom inserted sortedInto neighbours nearbyNeighbour droppedAfter dropped spanOf spanned crossed crossingOf crossingWith edgeDirection meanDirection vertexDirection atVertex insideEdge atLengthFrom atLength atLengthAsked crossingAsked joinedAsked circleEntry tryAsked
     closestOnAll leastOf leastOfAll nearestOf fractionOn heldPoint measuredTo closestOnEdge lineProjection distOf movedEnds halved circleBetween halving halvedFrom fromLine
     camberPoint numbersOf circleFrom circlesFrom allNumbers stored badCircle anyBad midPointOf lineNormalized rayNormalized rayProjection atDistance shiftedRay halfwayRay circleOn tryInscribed judged triedOn trial
     next run whole withRoom afterTrial refineMove measure refineStep tmaxFrom tmax storeEntry tmaxAsked frontAndBack centerDot lessForward dirFwd voteOf votesFrom majority dirUpper orientEntry fwdAsked upperAsked lastPair middleLine facedLine clipLine endCamberRay
@@ -276,7 +276,7 @@ steps-hold = (refl, (refl, (refl, (refl, (refl, (refl, (refl, (refl, (refl, (ref
 fits-hold : Holds (P11 ∷ P12 ∷ [])
 unfolding P11 P12 halvedTimes R U four two line crossing vector circle unused pairOfU swappedOfU atX onAxis turnedOnAxis edgeOfU numbered fitRan sqrtOf rootOfUnits wholeRoot rootDigits units size span climb odd trailingZeros ofBits ofFields round neg sum add sub mul div lt eq le
     dotOf normOf difference normalized lineThrough atParam intersectionParam pointsOf plainDist isClosed lengthsFrom lengthsOf wholeLength badNumbers crowded notRising sectionEntry keptAfter kept lastOf endsMeet forcedClosed curveOf cleaned
-    edgesOf edgeHit hitsFrom inserted sortedInto neighbours nearbyNeighbour droppedAfter dropped spanOf spanned crossed crossingWith edgeDirection meanDirection vertexDirection atVertex insideEdge atLengthFrom atLength atLengthAsked crossingAsked joinedAsked circleEntry tryAsked
+    edgesOf edgeHit hitsFrom inserted sortedInto neighbours nearbyNeighbour droppedAfter dropped spanOf spanned crossed crossingOf crossingWith edgeDirection meanDirection vertexDirection atVertex insideEdge atLengthFrom atLength atLengthAsked crossingAsked joinedAsked circleEntry tryAsked
     closestOnAll leastOf leastOfAll nearestOf fractionOn heldPoint measuredTo closestOnEdge lineProjection distOf movedEnds halved circleBetween halving halvedFrom fromLine
     camberPoint numbersOf circleFrom circlesFrom allNumbers stored badCircle anyBad midPointOf lineNormalized rayNormalized rayProjection atDistance shiftedRay halfwayRay circleOn tryInscribed judged triedOn trial
     next run whole withRoom afterTrial refineMove measure refineStep tmaxFrom tmax storeEntry tmaxAsked frontAndBack centerDot lessForward dirFwd voteOf votesFrom majority dirUpper orientEntry fwdAsked upperAsked lastPair middleLine facedLine clipLine endCamberRay
