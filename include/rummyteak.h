@@ -75,7 +75,12 @@ enum rummyteak_ending {
     /* camber ray and gap are parallel */
     RUMMYTEAK_GAP_PARALLEL = 19,
     /* the ray meets the gap's line at a fraction of 0 or less, or outside the gap */
-    RUMMYTEAK_GAP_MISSED = 20
+    RUMMYTEAK_GAP_MISSED = 20,
+    /* a stretch between lengths nearer to each other than the section tolerance, whose end lies before its start on an open
+     * section, or of under two points */
+    RUMMYTEAK_EMPTY_STRETCH = 21,
+    /* a split asked of the wrong kind of section: an open one of a closed section, or the other way round */
+    RUMMYTEAK_WRONG_KIND = 22
 };
 
 /* ---- the square root */

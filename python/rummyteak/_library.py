@@ -35,6 +35,8 @@ WORDS = {
     18: "a gap end lies behind the camber line's end",
     19: "camber line and gap are parallel",
     20: "the camber line misses the gap",
+    21: "the stretch is empty: its lengths are too near, its end lies before its start, or under two points remain",
+    22: "the split is for the other kind of section, open or closed",
 }
 
 

@@ -36,6 +36,8 @@ ADVICE = {
     18: "name the other --end, or leave the edges alone with --end none",
     19: "name the other --end, or leave the edges alone with --end none",
     20: "name the other --end, or leave the edges alone with --end none",
+    21: "hand in lengths farther apart",
+    22: "ask for the split of the other kind of section",
 }
 
 

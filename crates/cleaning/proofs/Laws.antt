@@ -27,7 +27,7 @@ pub record IsCurve (ps : List Point2) (tol : Float) : Type 0 where
   pub points : pointsOf (pointNumbers ps) ≡ ps
   pub apart : crowded tol ps ≡ false
 
-neither : (a b : Bool) → (a || b) ≡ false → (a ≡ false) × (b ≡ false)
+pub neither : (a b : Bool) → (a || b) ≡ false → (a ≡ false) × (b ≡ false)
 neither false b e = (refl, e)
 neither true b e = let z : _≡_ {A = ℕ} 0 1 = cc in absurd (omega arith)
 
@@ -60,7 +60,7 @@ closing-apart tol true (p ∷ ps) e = go (endsMeet tol (p ∷ ps)) refl
 -- ---- its numbers are those of the points handed in
 
 -- point by point
-bad-point : (p : Point2) (ps : List Point2) → badNumbers (pointNumbers (p ∷ ps)) ≡ (badNumbers (pointNumbers (p ∷ [])) || badNumbers (pointNumbers ps))
+pub bad-point : (p : Point2) (ps : List Point2) → badNumbers (pointNumbers (p ∷ ps)) ≡ (badNumbers (pointNumbers (p ∷ [])) || badNumbers (pointNumbers ps))
 unfolding badNumbers pointNumbers
 bad-point p ps = go (inRange (p .x)) (inRange (p .y))
   where
@@ -97,7 +97,7 @@ good-closing tol true (p ∷ ps) h = go (endsMeet tol (p ∷ ps)) refl (neither 
     go true f g = rw f h
     go false f g = rw f (good-snoc (p ∷ ps) p h g)
 
-good-whole : (tol : Float) (ps : List Point2) → badNumbers (pointNumbers ps) ≡ false → badNumbers (pointNumbers (kept tol ps)) ≡ false
+pub good-whole : (tol : Float) (ps : List Point2) → badNumbers (pointNumbers ps) ≡ false → badNumbers (pointNumbers (kept tol ps)) ≡ false
 unfolding kept
 good-whole tol [] h = h
 good-whole tol (p ∷ ps) h =
@@ -106,12 +106,12 @@ good-whole tol (p ∷ ps) h =
 
 -- ---- a curve that cleaning made
 
-whole-apart : (tol : Float) (ps : List Point2) → crowded tol (kept tol ps) ≡ false
+pub whole-apart : (tol : Float) (ps : List Point2) → crowded tol (kept tol ps) ≡ false
 unfolding kept crowded
 whole-apart tol [] = refl
 whole-apart tol (p ∷ ps) = kept-apart tol p ps
 
-count-passes : (most n : ℕ) → n % 2 ≡ 0 → 4 ≤ n → n ≤ most + most → badCount most n ≡ false
+pub count-passes : (most n : ℕ) → n % 2 ≡ 0 → 4 ≤ n → n ≤ most + most → badCount most n ≡ false
 count-passes most n even least h = rw (eq-eqb _ _ even, le-ltb (n / 2) 2 (omega arith), le-ltb most (n / 2) (omega arith))
 
 module _ (ns : List Float) (tol : Float) (forced : Bool) (count : badCount mostCleaned (length ns) ≡ false) (numbers : badNumbers ns ≡ false) (tolerance : badTolerance tol ≡ false)

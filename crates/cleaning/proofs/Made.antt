@@ -119,6 +119,23 @@ module _ (tol : Float) (ns old : List Float) (h₁ : Held) (e₁ : h₁ ≡ hold
     closed-made closed e =
         made-result _ _ (2 * h₂ .kept .count) _ (ap (λ (n : ℕ). 2 * n) (held-count _ _ _ closed-held)) (held-output _ _ _ closed-held) tol closed _ (held-count _ _ _ closed-held) e
 
+-- without forced closing
+
+module _ (tol : Float) (ns old : List Float) (h : Held) (e : h ≡ holding old (kept tol (pointsOf ns)))
+    (even : length ns % 2 ≡ 0) (least : 2 ≤ length ns) (room : length ns ≤ length old) where
+  pub kept-fits : (1 ≤ h .kept .count) × (2 * h .kept .count ≤ length old)
+  kept-fits = let n = held-count _ _ _ e in (omega (arith, kept-least tol ns even least), omega (arith, kept-most tol ns even least))
+
+  twice : 2 * h .kept .count ≡ 2 * length (kept tol (pointsOf ns))
+  twice = ap (λ (n : ℕ). 2 * n) (held-count _ _ _ e)
+
+  pub kept-length : length (take (2 * h .kept .count) (h .output)) ≡ 2 * h .kept .count
+  kept-length = first-length _ _ (2 * h .kept .count) _ twice (held-output _ _ _ e)
+
+  pub kept-made : (closed : Bool) → closed ≡ endsMeet tol (pointsOf (take (2 * h .kept .count) (h .output)))
+      → Made (result (kept tol (pointsOf ns))) tol old (h .output) (CurveAnswer.Value (record { count = h .kept .count; «is_closed» = closed }))
+  kept-made closed f = made-result _ _ (2 * h .kept .count) _ twice (held-output _ _ _ e) tol closed _ (held-count _ _ _ e) f
+
 -- ---- 5: fewer than two points are kept
 
 -- every one of the points is within the tolerance of p, so that none of them is kept behind it

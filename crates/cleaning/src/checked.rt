@@ -33,7 +33,7 @@ pub fn put(out: &mut [f64], count: usize, p: Point2) -> Kept
 }
 
 // Whether cleaning leaves fewer than two points: none is farther than the tolerance from the first.
-fn is_too_few(points: &[f64], tol: f64) -> bool
+pub fn is_too_few(points: &[f64], tol: f64) -> bool
     requires { ⌜ length (now points) % 2 ≡ 0 ⌝ }
     requires { ⌜ 2 ≤ length (now points) ⌝ }
     ensures { λ r. ⌜ r ≡ ltb (length (kept tol (pointsOf (now (points .entry))))) 2 ⌝ }
@@ -48,6 +48,24 @@ fn is_too_few(points: &[f64], tol: f64) -> bool
         i += 2;
     }
     true
+}
+
+// The curve that cleaning makes without forced closing, where two points or more are kept: it fits an output as long as the points.
+pub fn keep_points(points: &[f64], tol: f64, out: &mut [f64]) -> Curve
+    requires { ⌜ length (now points) % 2 ≡ 0 ⌝ }
+    requires { ⌜ 2 ≤ length (now points) ⌝ }
+    requires { ⌜ length (now points) ≤ length (now out) ⌝ }
+    ensures { λ r. ⌜ Made (result (kept tol (pointsOf (now (points .entry))))) tol (now (out .entry)) (now (out .exit)) (CurveAnswer.Value r) ⌝ }
+{
+    let k = keeping::keep_all(points, tol, out);
+    let count = k.count;
+    let end = 2 * count;
+    let piece = &out[..end];
+    let is_closed = curve2::checked::ends_meet(piece, tol);
+    Curve {
+        count: count,
+        is_closed: is_closed,
+    }
 }
 
 // The curve that cleaning makes, where two points or more are kept.

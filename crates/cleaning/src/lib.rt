@@ -12,7 +12,7 @@ ghost use Rattle.cleaning.specs.Cleaning.{cleaned, Made};
 mod keeping;
 
 // Cleaning takes no more points than this: forced closing may add one.
-const MOST_CLEANED: usize = MOST_POINTS - 1;
+pub const MOST_CLEANED: usize = MOST_POINTS - 1;
 
 // A curve in an output: how many points it has, and whether its ends meet.
 pub struct Curve {

@@ -1,4 +1,4 @@
--- The answer of a step: its result, or a refusal, each with document 01's number. Steps are joined by `_>>=_`: the first refusal is the answer of the whole.
+-- The answer of a step: its result, or a refusal, each with document 01's or 02's number. Steps are joined by `_>>=_`: the first refusal is the answer of the whole.
 -- Assumes nothing.
 use Prim.Native.Nat.{ℕ}
 use mathlib.Core.Bool.{cond}
@@ -7,7 +7,7 @@ use lib.Ieee.Scale.{finite}
 use Rattle.errors.specs.declared.Refusal.{Refusal}
 use Rattle.errors.specs.declared.ScalarAnswer.{ScalarAnswer}
 use Rattle.errors.specs.declared.ScalarAnswer.the-variants.{Value, Refused}
-use Rattle.errors.specs.declared.Refusal.the-variants.{PointCount, BadNumber, Tolerance, NoRoom, TooFewKept, NotSpaced, TooFewCircles, NoCrossing, OffCurve, TooLong, ZeroLength, NotFinite, NoAdvance, StoreFull, StackFull, ClosedSection, GapBehind, GapParallel, GapMissed}
+use Rattle.errors.specs.declared.Refusal.the-variants.{PointCount, BadNumber, Tolerance, NoRoom, TooFewKept, NotSpaced, TooFewCircles, NoCrossing, OffCurve, TooLong, ZeroLength, NotFinite, NoAdvance, StoreFull, StackFull, ClosedSection, GapBehind, GapParallel, GapMissed, EmptyStretch, WrongKind}
 
 pub data Answer (A : Type 0) : Type 0 where
   result : A → Answer A
@@ -45,6 +45,8 @@ numberOf ClosedSection = 17
 numberOf GapBehind = 18
 numberOf GapParallel = 19
 numberOf GapMissed = 20
+numberOf EmptyStretch = 21
+numberOf WrongKind = 22
 
 -- the number of an answer: 0 for a result
 abbrev pub number : {A : Type 0} → Answer A → ℕ

@@ -45,6 +45,10 @@ pub enum Refusal {
     GapParallel,
     // 20: the ray meets the gap's line at a fraction of 0 or less, or outside the gap.
     GapMissed,
+    // 21: lengths within the section tolerance of each other, an open section's end before its start, or fewer than two points left.
+    EmptyStretch,
+    // 22: a split of the wrong kind of section.
+    WrongKind,
 }
 
 // A number, or why there is none.
@@ -77,6 +81,8 @@ pub fn number(refusal: Refusal) -> u32
         Refusal::GapBehind => 18,
         Refusal::GapParallel => 19,
         Refusal::GapMissed => 20,
+        Refusal::EmptyStretch => 21,
+        Refusal::WrongKind => 22,
     }
 }
 

@@ -2,21 +2,21 @@
 use mathlib.Core.Path.{_≡_, refl, sym, ap, _∙_}
 use mathlib.Core.Bool.{true, false}
 use mathlib.Core.List.{List, [], _∷_}
-use Prim.Native.Nat.{ℕ, _+_, _*_, _<_}
+use Prim.Native.Nat.{ℕ, zero, suc, _+_, _*_, _/_, _<_}
 use native.Mathlib.Nat.{add-zero}
 use native.Mathlib.Numerals.{add-one}
 use native.Mathlib.Omega.{arith}
-use lib.ListN.{getD, drop}
+use lib.ListN.{length, getD, drop}
 use lib.Seq.{drop-drop, getD-drop}
 use lib.Ieee.{Float, nan, lt, eq}
 use Rattle.errors.specs.Answer.{Answer, watched}
-use Rattle.points.specs.Numbers.{_+f_, _-f_, _*f_}
+use Rattle.points.specs.Numbers.{_+f_, _-f_, _*f_, f0}
 use Rattle.points.specs.declared.Point2.{Point2}
 use Rattle.curve2.specs.Section.{pointsOf, pointAt, plainDist, lengthsFrom, lengthsOf}
 use Rattle.curve2.specs.Entry.{HasPoints}
 use Rattle.curve2.proofs.Laws.{points-step, points-end}
 use Rattle.curve2.specs.Stations.{vertex, lastVertex, atVertex}
-use Rattle.sections.specs.Places.{insideEdge, atLengthFrom, lengthAlong}
+use Rattle.sections.specs.Places.{insideEdge, atLengthFrom, lengthAt, lengthAlong}
 use Rattle.curve2.specs.declared.CurveStation2.{CurveStation2}
 
 -- where the next vertex' numbers start
@@ -73,6 +73,23 @@ module _ (ns : List Float) (i : ℕ) (m : Float) (inv : drop i (lengthsOf (point
   length-next : getD ls (i + 1) nan ≡ d +f m
   length-next = sym (getD-drop i ls 1 nan) ∙ rw (here, points-step ns (2 * i + 2) (omega arith)) (first-length (d +f m) _ _)
 
-  pub length-told : (k : ℕ) (f : Float) → i ≡ k → watched (m +f (d +f m -f m) *f f) ≡ lengthAlong ns k f
-  unfolding lengthAlong
-  length-told k f e = rw (← e, length-here, length-next)
+pub length-there : (ns : List Float) (i : ℕ) (m : Float) → drop i (lengthsOf (pointsOf ns)) ≡ lengthsFrom m (pointsOf (drop (2 * i) ns)) → (k : ℕ) → i < lastVertex ns → i ≡ k → m ≡ lengthAt ns k
+length-there ns i m inv k fits e = rw (← e) (sym (length-here ns i m inv fits _ refl))
+
+-- at every vertex the lengths left start with the length there
+pub lengths-at : (ns : List Float) (i : ℕ) → i < length ns / 2 → drop i (lengthsOf (pointsOf ns)) ≡ lengthsFrom (lengthAt ns i) (pointsOf (drop (2 * i) ns))
+unfolding lengthsOf
+lengths-at ns zero h = rw (points-step ns 0 (omega arith), first-length f0 (pointAt ns 0) (pointsOf (drop 2 ns)))
+lengths-at ns (suc i) h =
+    let inv = lengths-at ns i (omega arith) in
+    let fits : i < lastVertex ns = omega arith in
+    rw (← (add-one i)) (lengths-step ns i (lengthAt ns i) inv fits _ refl ∙ rw (length-next ns i (lengthAt ns i) inv fits _ refl))
+
+-- the length at the next vertex
+pub length-after : (ns : List Float) (i : ℕ) → i < lastVertex ns → lengthAt ns (i + 1) ≡ plainDist (pointAt ns (2 * i + 2)) (pointAt ns (2 * i)) +f lengthAt ns i
+length-after ns i fits = length-next ns i (lengthAt ns i) (lengths-at ns i (omega arith)) fits _ refl
+
+pub length-told : (ns : List Float) (i : ℕ) (m d f : Float) → i < lastVertex ns → m ≡ lengthAt ns i → d ≡ plainDist (pointAt ns (2 * i + 2)) (pointAt ns (2 * i))
+    → watched (m +f (d +f m -f m) *f f) ≡ lengthAlong ns i f
+unfolding lengthAlong
+length-told ns i m d f fits e g = rw (e, g, length-after ns i fits)

@@ -37,12 +37,15 @@ atLengthFrom ns tol l i m (p ∷ (q ∷ ps)) =
 unfoldable pub atLength : List Float → Float → Float → Answer CurveStation2
 atLength ns tol l = cond (lt l f0 || lt (wholeLength ns) l) (refusal OffCurve) (atLengthFrom ns tol l 0 f0 (pointsOf ns))
 
+-- l[i]
+abbrev pub lengthAt : List Float → ℕ → Float
+lengthAt ns i = getD (lengthsOf (pointsOf ns)) i nan
+
 -- l[i] + (l[i + 1] - l[i]) × fraction, also at fraction 1
 unfoldable pub lengthAlong : List Float → ℕ → Float → Answer Float
 lengthAlong ns i f =
-    let ls = lengthsOf (pointsOf ns) in
-    let m = getD ls i nan in
-    let n = getD ls (i + 1) nan in
+    let m = lengthAt ns i in
+    let n = lengthAt ns (i + 1) in
     watched (m +f (n -f m) *f f)
 
 -- ---- by nearness

@@ -12,7 +12,7 @@ ghost use Prim.Native.Nat.{_<_};
 ghost use Rattle.errors.specs.Answer.{listedScalar};
 ghost use Rattle.curve2.specs.Entry.{HasPoints};
 ghost use Rattle.curve2.specs.Stations.{lastVertex, listedStation};
-ghost use Rattle.sections.specs.Places.{atLength, lengthAlong, atClosest};
+ghost use Rattle.sections.specs.Places.{atLength, lengthAt, lengthAlong, atClosest};
 
 // The station at a length along: 9 where that is below 0 or above the whole.
 pub fn at_length(section: &[f64], tol: f64, length: f64) -> StationAnswer
@@ -28,10 +28,10 @@ pub fn at_length(section: &[f64], tol: f64, length: f64) -> StationAnswer
     lengths::length_found(section, tol, length)
 }
 
-// The length along of a place: the lengths up to its edge, and its fraction of that edge's.
-pub fn length_along(section: &[f64], index: usize, fraction: f64) -> ScalarAnswer
+// The length at a vertex, edge by edge.
+pub fn length_to(section: &[f64], index: usize) -> f64
     requires { ⌜ HasPoints (now section) × (index < lastVertex (now section)) ⌝ }
-    ensures { λ r. ⌜ listedScalar r ≡ lengthAlong (now (section .entry)) index fraction ⌝ }
+    ensures { λ r. ⌜ r ≡ lengthAt (now (section .entry)) index ⌝ }
 {
     let mut m: f64 = 0.0;
     let mut i: usize = 0;
@@ -39,7 +39,16 @@ pub fn length_along(section: &[f64], index: usize, fraction: f64) -> ScalarAnswe
         m = curve2::checked::edge_length(section, 2 * i) + m;
         i += 1;
     }
-    let n = curve2::checked::edge_length(section, 2 * i) + m;
+    m
+}
+
+// The length along of a place: the lengths up to its edge, and its fraction of that edge's.
+pub fn length_along(section: &[f64], index: usize, fraction: f64) -> ScalarAnswer
+    requires { ⌜ HasPoints (now section) × (index < lastVertex (now section)) ⌝ }
+    ensures { λ r. ⌜ listedScalar r ≡ lengthAlong (now (section .entry)) index fraction ⌝ }
+{
+    let m = length_to(section, index);
+    let n = curve2::checked::edge_length(section, 2 * index) + m;
     errors::watch(m + (n - m) * fraction)
 }
 

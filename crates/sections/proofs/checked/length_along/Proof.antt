@@ -1,64 +1,27 @@
--- `length_along` sums the edges before the one asked for. The loop keeps that the lengths from vertex i on start with the length so far. Assumes nothing.
-use Prim.Native.Nat.{_*_, _≤_, _-_}
-use mathlib.Core.Path.{_≡_, refl, _∙_}
-use native.Mathlib.Omega.{arith}
+-- `length_along` tells the length along from the length at the edge's first vertex. Assumes nothing.
 use borrow.Author.Needs.{needs}
-use lib.ListN.{drop}
-use Rattle.sections.proofs.LengthLaws.{lengths-step, length-told}
-use Rattle.curve2.specs.Section.{pointsOf, lengthsFrom, lengthsOf}
+use mathlib.Core.Path.{_∙_}
+use Rattle.sections.proofs.LengthLaws.{length-told}
+use native.Mathlib.Omega.{arith}
 use Rattle.sections.proofs.checked.length_along.Statement.{statement}
 use Rattle.sections.proofs.checked.length_along.Tie as tie
 
-abbrev Inv-loop : tie.InvT-loop
-Inv-loop section index fraction m₀ i₀ m i = (i ≤ index) × (drop i (lengthsOf (pointsOf section)) ≡ lengthsFrom m (pointsOf (drop (2 * i) section)))
+length-to-requires : tie.Need-length-to-requires
+length-to-requires c κs = search needs
 
-abbrev μ-loop : tie.MeasureT-loop
-μ-loop section index fraction m₀ i₀ m i = index - i
-
-loop-holds : tie.Need-loop-holds Inv-loop μ-loop
-unfolding lengthsOf
-loop-holds c = (omega arith, refl)
-
-mul-edge-length : tie.Need-mul-edge-length Inv-loop μ-loop
+mul-edge-length : tie.Need-mul-edge-length
 mul-edge-length c = omega arith
 
-edge-length-requires : tie.Need-edge-length-requires Inv-loop μ-loop
+edge-length-requires : tie.Need-edge-length-requires
 edge-length-requires c κs = omega arith
 
-add-i : tie.Need-add-i Inv-loop μ-loop
-add-i c = omega arith
-
-loop-less : tie.Need-loop-less Inv-loop μ-loop
-loop-less c = omega arith
-
-loop-again : tie.Need-loop-again Inv-loop μ-loop
-loop-again c = (omega arith, lengths-step _ (c .before .before .loop .i) _ (c .before .before .loop .inv .1) (omega arith) _ (c .edge-length .ensures))
-
-mul-edge-length-2 : tie.Need-mul-edge-length-2 Inv-loop μ-loop
-mul-edge-length-2 c = omega arith
-
-edge-length-requires-2 : tie.Need-edge-length-requires-2 Inv-loop μ-loop
-edge-length-requires-2 c κs = omega arith
-
-watch-requires : tie.Need-watch-requires Inv-loop μ-loop
+watch-requires : tie.Need-watch-requires
 watch-requires c κs = search needs
 
-returns : tie.Need-returns Inv-loop μ-loop
-returns c = c .watch .ensures ∙ length-told _ (c .before .before .before .loop .i) _ (c .before .before .before .loop .inv .1) (omega arith) _ (c .before .edge-length2 .ensures) _ _ (omega arith)
+returns : tie.Need-returns
+returns c = c .watch .ensures ∙ length-told _ _ _ _ _ (c .before .before .before .before .pre .1) (c .before .before .length-to .ensures) (c .before .edge-length .ensures)
 
 pub length-along-spec : {M : Type 1} → statement M
 length-along-spec =
     tie.close
-    (tie.spec
-    Inv-loop
-    μ-loop
-    loop-holds
-    mul-edge-length
-    edge-length-requires
-    add-i
-    loop-less
-    loop-again
-    mul-edge-length-2
-    edge-length-requires-2
-    watch-requires
-    returns)
+    (tie.spec length-to-requires mul-edge-length edge-length-requires watch-requires returns)
