@@ -54,7 +54,131 @@ pub fn crossing_line(section: &[f64], tol: f64, l: Line) -> Option<Line> {
     crossing(section, l)
 }
 
+// The stretch between two lengths, cleaned, and how many points were given. Points given stand in an array first.
+pub fn between(section: &[f64], tol: f64, l0: f64, l1: f64, out: &mut [f64]) -> Option<(usize, usize)> {
+    if section.len() > 2 * 4095 || !enters(section, tol, !l0.is_finite() || !l1.is_finite()) || out.len() < section.len() + 2 {
+        return None;
+    }
+    let (start, end) = (at_length(section, tol, l0)?, at_length(section, tol, l1)?);
+    let last = section.len() / 2 - 1;
+    let closed = length(section[2 * last] - section[0], section[2 * last + 1] - section[1]) <= tol;
+    let wrap = end.along() < start.along();
+    if (l1 - l0).abs() < tol || !closed && wrap {
+        return None;
+    }
+    let mut points = [0.0; 2 * 4096];
+    let mut given = put(&mut points, 0, start.x, start.y);
+    let last_index = if closed { last - 1 } else { last };
+    let (mut i, mut at, mut again) = (start.index, start.along(), wrap);
+    // the length at the vertex behind the edge
+    let mut n = start.n;
+    loop {
+        if i + 1 > last_index {
+            if !again {
+                break;
+            }
+            again = false;
+            vertex_direction(section, closed, 0)?;
+            given = put(&mut points, given, section[0], section[1]);
+            (i, at, n) = (0, 0.0, length(section[2] - section[0], section[3] - section[1]));
+        } else if at <= end.along() && i + 1 > end.index {
+            break;
+        } else {
+            i += 1;
+            vertex_direction(section, closed, i)?;
+            given = put(&mut points, given, section[2 * i], section[2 * i + 1]);
+            at = n;
+            if i < last {
+                n = length(section[2 * i + 2] - section[2 * i], section[2 * i + 3] - section[2 * i + 1]) + n;
+            }
+        }
+    }
+    if length(end.x - points[2 * given - 2], end.y - points[2 * given - 1]) > tol {
+        given = put(&mut points, given, end.x, end.y);
+    }
+    let kept = clean(&points[..2 * given], tol, out);
+    (kept >= 2).then_some((kept, given))
+}
+
 // ---- steps
+
+// A place by its length: its point and edge, the lengths at both vertices of the edge, and the fraction.
+struct Place {
+    x: f64,
+    y: f64,
+    index: usize,
+    m: f64,
+    n: f64,
+    fraction: f64,
+}
+
+impl Place {
+    fn along(&self) -> f64 {
+        self.m + (self.n - self.m) * self.fraction
+    }
+}
+
+fn at_length(section: &[f64], tol: f64, l: f64) -> Option<Place> {
+    let last = section.len() / 2 - 1;
+    let closed = length(section[2 * last] - section[0], section[2 * last + 1] - section[1]) <= tol;
+    let mut m = 0.0;
+    for i in 0..last {
+        let (x, y) = (section[2 * i], section[2 * i + 1]);
+        let (dx, dy) = (section[2 * i + 2] - x, section[2 * i + 3] - y);
+        let n = length(dx, dy) + m;
+        if m == l {
+            vertex_direction(section, closed, i)?;
+            return Some(Place { x, y, index: i, m, n, fraction: 0.0 });
+        }
+        if l < n {
+            if l < m {
+                return None;
+            }
+            let (ux, uy) = normalized(dx, dy);
+            return Some(Place { x: x + ux * (l - m), y: y + uy * (l - m), index: i, m, n, fraction: (l - m) / (n - m) });
+        }
+        if i + 1 == last && n == l {
+            vertex_direction(section, closed, last)?;
+            return Some(Place { x: section[2 * last], y: section[2 * last + 1], index: i, m, n, fraction: 1.0 });
+        }
+        m = n;
+    }
+    None
+}
+
+// The direction at a vertex; there is none where the section doubles back.
+fn vertex_direction(section: &[f64], closed: bool, i: usize) -> Option<(f64, f64)> {
+    let last = section.len() / 2 - 1;
+    let edge = |k: usize| normalized(section[2 * k + 2] - section[2 * k], section[2 * k + 3] - section[2 * k + 1]);
+    let (a, b) = if closed && (i == 0 || i == last) {
+        (edge(0), edge(last - 1))
+    } else if i == 0 {
+        return Some(edge(0));
+    } else if i == last {
+        return Some(edge(last - 1));
+    } else {
+        (edge(i - 1), edge(i))
+    };
+    let (x, y) = (a.0 + b.0, a.1 + b.1);
+    (length(x, y) != 0.0).then(|| std::hint::black_box(normalized(x, y)))
+}
+
+fn put(points: &mut [f64], count: usize, x: f64, y: f64) -> usize {
+    points[2 * count] = x;
+    points[2 * count + 1] = y;
+    count + 1
+}
+
+// A point no farther than the tolerance from the last kept one is dropped.
+fn clean(points: &[f64], tol: f64, out: &mut [f64]) -> usize {
+    let mut kept = put(out, 0, points[0], points[1]);
+    for p in points[2..].chunks_exact(2) {
+        if length(p[0] - out[2 * kept - 2], p[1] - out[2 * kept - 1]) > tol {
+            kept = put(out, kept, p[0], p[1]);
+        }
+    }
+    kept
+}
 
 // The least square wins, the lower edge on a tie.
 pub fn nearest(section: &[f64], px: f64, py: f64) -> (usize, f64, f64, f64, f64) {

@@ -4,6 +4,7 @@
 mod leaves;
 
 use AngleDir::Ccw;
+pub use leaves::Result;
 use leaves::*;
 use std::error::Error;
 use std::fmt::{Display, Formatter};
@@ -24,6 +25,11 @@ pub fn closest(curve: &Curve2, x: f64, y: f64) -> ([f64; 5], usize) {
     let s = curve.at_closest_to_point(&Point2::new(x, y));
     let ([x, y], [dx, dy]) = (s.point().coords.0, s.direction().into_inner().0);
     ([x, y, dx, dy, s.fraction()], s.index())
+}
+
+// The points of a stretch.
+pub fn between(curve: &Curve2, l0: f64, l1: f64) -> Option<Vec<f64>> {
+    Some(curve.between_lengths(l0, l1)?.points().iter().flat_map(|p| p.coords.0).collect())
 }
 
 fn line_at(n: &[f64]) -> Line2 {

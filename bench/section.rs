@@ -12,7 +12,7 @@ mod published;
 use interface::*;
 use plain::{Circle, Line};
 #[cfg(published)]
-use published::{Curve2, CurveStation2, dist};
+use published::{Curve2, CurveStation2, Result, dist};
 use std::hint::black_box;
 use std::time::Instant;
 
@@ -145,6 +145,21 @@ fn crossings(lines: &[f64], crossing: impl Fn(Line) -> Option<[f64; 4]>) -> f64 
     lines.chunks_exact(4).fold(0.0, |sum, l| sum + crossing(line_at(l)).map_or(0.0, |k| k[2] + k[3]))
 }
 
+fn stretches(lengths: &[f64], mut stretch: impl FnMut(f64, f64) -> f64) -> f64 {
+    lengths.chunks_exact(2).fold(0.0, |sum, l| sum + stretch(l[0], l[1]))
+}
+
+// Of a stretch the sum of its numbers, and of how many points it has.
+fn sum_of(points: &[f64]) -> f64 {
+    points.iter().fold(points.len() as f64, |sum, x| sum + x)
+}
+
+fn port_between(section: &[f64], l0: f64, l1: f64, out: &mut [f64]) -> f64 {
+    let (mut count, mut closed, mut given) = (0, false, 0);
+    let number = unsafe { rummyteak_between_lengths(section.as_ptr(), section.len(), T, l0, l1, out.as_mut_ptr(), out.len(), &mut count, &mut closed, &mut given) };
+    if number == 0 { sum_of(&out[..2 * count]) } else { 0.0 }
+}
+
 fn port_is_closed(section: &[f64], tol: f64) -> Option<bool> {
     let mut yes = false;
     let number = unsafe { rummyteak_is_closed(section.as_ptr(), section.len(), tol, &mut yes) };
@@ -227,6 +242,34 @@ fn passes(edges: usize, open: bool, once: bool) {
         &plain,
     ];
     pass(Row { name: "crossing", shape, edges, per: Per::Edge(passed) }, &lines, 4, answers, once);
+}
+
+// Stretches of nearly the whole section; a section of 4,096 points has none.
+fn stretch(edges: usize, open: bool, once: bool) {
+    let edges = edges.min(4094);
+    let section = blade(edges, open);
+    let k = 200_000 / edges;
+    let whole = section.windows(4).step_by(2).fold(0.0, |l, p| (p[2] - p[0]).hypot(p[3] - p[1]) + l);
+    let lengths: Vec<f64> = (0..k).flat_map(|i| [0.0001, 0.9999].map(|x| whole * (x + 0.00002 * i as f64 / k as f64))).collect();
+    let room = std::cell::RefCell::new(vec![0.0; section.len() + 2]);
+    let port = |ls: &[f64]| stretches(ls, |l0, l1| port_between(&section, l0, l1, &mut room.borrow_mut()));
+    let plain = |ls: &[f64]| {
+        stretches(ls, |l0, l1| {
+            let out = &mut room.borrow_mut()[..];
+            plain::between(black_box(&section), T, l0, l1, out).map_or(0.0, |(count, _)| sum_of(&out[..2 * count]))
+        })
+    };
+    #[cfg(published)]
+    let curve = published::curve(&section, T);
+    #[cfg(published)]
+    let rust = |ls: &[f64]| stretches(ls, |l0, l1| published::between(&curve, l0, l1).map_or(0.0, |points| sum_of(&points)));
+    let answers: &[&dyn Fn(&[f64]) -> f64] = &[
+        &port,
+        #[cfg(published)]
+        &rust,
+        &plain,
+    ];
+    pass(Row { name: "stretch", shape: shape_of(open), edges, per: Per::Edge(k * edges) }, &lengths, 2, answers, once);
 }
 
 fn shape_of(open: bool) -> &'static str {
@@ -343,6 +386,7 @@ fn main() {
     for edges in [100usize, 1000, 4095] {
         for open in [false, true] {
             passes(edges, open, once);
+            stretch(edges, open, once);
         }
     }
     for edges in [100usize, 1000, 4095] {

@@ -28,7 +28,7 @@ extern "C" {
 /* Numbers to a circle, and circles that a store holds at most. */
 #define RUMMYTEAK_WIDTH 7
 #define RUMMYTEAK_SLOTS 1024
-/* Points of a section, and of what is cleaned, at most. */
+/* Points of a section, and of what is cleaned or cut, at most. */
 #define RUMMYTEAK_POINTS 4096
 #define RUMMYTEAK_CLEANED 4095
 /* The largest limit: no limit is felt. */
@@ -36,7 +36,7 @@ extern "C" {
 
 enum rummyteak_ending {
     RUMMYTEAK_RESULT = 0,
-    /* points: odd count of numbers, fewer than 2 points, or over 4,096 (cleaning: over 4,095) */
+    /* points: odd count of numbers, fewer than 2 points, or over 4,096 (cleaning and stretches: over 4,095) */
     RUMMYTEAK_POINT_COUNT = 1,
     /* a number handed in isn't finite, lies beyond 1,000,000, or is a radius below zero */
     RUMMYTEAK_BAD_NUMBER = 2,
@@ -127,6 +127,24 @@ uint32_t rummyteak_crossing_line(const double *section, size_t section_len, doub
                                  double dy, double *crossing, size_t *edges);
 uint32_t rummyteak_joined_crossing(const double *section, size_t section_len, double tol, double ox, double oy,
                                    double dx, double dy, double *crossing, size_t *edges);
+
+/* ---- a stretch of a section, of at most RUMMYTEAK_CLEANED points, into out (section_len + 2 numbers at least)
+ *
+ * The piece is cleaned: how many points it has, whether it is closed, and how many points it was given before cleaning, which
+ * is one more than the section has, at most. */
+
+/* The part from the length l0 along to l1. Of a closed section it runs over the seam where l1 lies before l0. */
+uint32_t rummyteak_between_lengths(const double *section, size_t section_len, double tol, double l0, double l1,
+                                   double *out, size_t out_len, size_t *count, bool *is_closed, size_t *given);
+
+/* A split in two: counts, are_closed and given are 2 each, for the piece in out0 and the one in out1. A refusal of either piece
+ * leaves both outputs alone. */
+uint32_t rummyteak_split_open_at_length(const double *section, size_t section_len, double tol, double at, double *out0,
+                                        size_t out0_len, double *out1, size_t out1_len, size_t *counts,
+                                        bool *are_closed, size_t *given);
+uint32_t rummyteak_split_closed_at_lengths(const double *section, size_t section_len, double tol, double l0, double l1,
+                                           double *out0, size_t out0_len, double *out1, size_t out1_len, size_t *counts,
+                                           bool *are_closed, size_t *given);
 
 /* ---- one circle or two; circle, a and b are RUMMYTEAK_WIDTH numbers */
 

@@ -51,6 +51,7 @@ TAKEN = [
             ),
         ],
     ),
+    ("geom2--curve2--partitioning.rs", [("impl Curve2 {", ["between_lengths", "split_open_at_length", "split_closed_at_lengths"])]),
     (
         "airfoil2.rs",
         [

@@ -382,6 +382,20 @@ fn stations(g: &mut Generator, s: &Shape, tol: f64, section: &[f64], tally: &mut
         let l = if g.one_in(2) { g.pick(&ends) } else { g.from(-0.05, 1.05) * whole };
         tally.compare(Call::AtLength, section, &join(t, &[l]), &[]);
     }
+    // Stretches between any two such lengths, near each other too; their order decides where the section is open.
+    for _ in 0..6 {
+        let one = |g: &mut Generator| if g.one_in(2) { g.pick(&ends) } else { g.from(-0.02, 1.02) * whole };
+        let l0 = one(g);
+        let l1 = match g.below(6) {
+            0 => l0,
+            1 => l0.next_up(),
+            2 => l0 + t[0],
+            _ => one(g),
+        };
+        tally.compare(Call::Between, section, &join(t, &[l0, l1]), &[]);
+        tally.compare(Call::SplitOpen, section, &join(t, &[l0]), &[]);
+        tally.compare(Call::SplitClosed, section, &join(t, &[l0, l1]), &[]);
+    }
     for _ in 0..3 {
         let f = if g.one_in(3) { g.pick(&[0.0, 1.0, 0.5]) } else { g.from(0.0, 1.0) };
         tally.compare(Call::LengthAlong(g.below(n - 1)), section, &join(t, &[f]), &[]);

@@ -30,6 +30,17 @@ unsafe extern "C" {
         p: In, n: usize, section_tol: f64, tol: f64, ox: f64, oy: f64, dx: f64, dy: f64, s: Out, l: usize, limit: u32, count: &mut usize,
         units: &mut u32,
     ) -> u32;
+    pub fn rummyteak_between_lengths(
+        p: In, n: usize, tol: f64, l0: f64, l1: f64, o: Out, m: usize, count: &mut usize, is_closed: &mut bool, given: &mut usize,
+    ) -> u32;
+    pub fn rummyteak_split_open_at_length(
+        p: In, n: usize, tol: f64, at: f64, o: Out, m: usize, second: Out, second_len: usize, counts: &mut [usize; 2], are_closed: &mut [bool; 2],
+        given: &mut [usize; 2],
+    ) -> u32;
+    pub fn rummyteak_split_closed_at_lengths(
+        p: In, n: usize, tol: f64, l0: f64, l1: f64, o: Out, m: usize, second: Out, second_len: usize, counts: &mut [usize; 2],
+        are_closed: &mut [bool; 2], given: &mut [usize; 2],
+    ) -> u32;
     pub fn rummyteak_front_and_back(s: In, l: usize, count: usize, front: Out, back: Out) -> u32;
     pub fn rummyteak_index_of_tmax(s: In, l: usize, count: usize, place: &mut usize) -> u32;
     pub fn rummyteak_average_spacing(s: In, l: usize, count: usize, spacing: Out) -> u32;

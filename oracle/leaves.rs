@@ -9,6 +9,8 @@ pub type Result<T> = std::result::Result<T, Box<dyn std::error::Error>>;
 // How often a line was tried against a section, and how often a ray was shifted: a run's units are counted by them.
 pub static TRIED: AtomicU64 = AtomicU64::new(0);
 pub static SHIFTED: AtomicU64 = AtomicU64::new(0);
+// How many distances were taken: how many points a walk gave the cleaning is known by them. Where functions are timed they are not counted.
+pub static DISTANCES: AtomicU64 = AtomicU64::new(0);
 
 // ---- vectors and points
 
@@ -34,12 +36,14 @@ impl<const D: usize> SVector<f64, D> {
     }
 
     pub fn norm(&self) -> f64 {
+        #[cfg(not(published))]
+        DISTANCES.fetch_add(1, Ordering::Relaxed);
         self.dot(self).sqrt()
     }
 
     // Normalising divides by the length.
     pub fn normalized(&self) -> Self {
-        let length = self.norm();
+        let length = self.dot(self).sqrt();
         SVector(self.0.map(|x| x / length))
     }
 }

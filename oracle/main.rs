@@ -109,6 +109,54 @@ fn curve_answer(c: Curve2) -> Wanted {
     Wanted::value(vec![c.count() as u64, c.is_closed() as u64], numbers)
 }
 
+// How many distances a function takes, and what it answers.
+fn counted<T>(f: impl FnOnce() -> T) -> (T, u64) {
+    let before = DISTANCES.load(Ordering::Relaxed);
+    let answer = f();
+    (answer, DISTANCES.load(Ordering::Relaxed) - before)
+}
+
+// The words and numbers of a piece. Its walk takes one distance, from the end to the last point; cleaning takes one less than it was given points, one between the ends and one for
+// each edge that it keeps: given and kept in all.
+fn piece((piece, distances): (Option<Curve2>, u64)) -> Option<(Vec<u64>, Vec<f64>)> {
+    let c = piece?;
+    let kept = c.count() as u64;
+    Some((vec![kept, c.is_closed() as u64, distances - kept], c.points().iter().flat_map(|p| p.coords.0).collect()))
+}
+
+// Of a None: 9 where a length is off the curve, else 21.
+fn no_piece(curve: &Curve2, l0: f64, l1: f64) -> Wanted {
+    let off = |l: f64| curve.at_length(l).is_none();
+    Wanted::none(if off(l0) || off(l1) { 9 } else { 21 })
+}
+
+fn between(curve: &Curve2, l0: f64, l1: f64) -> Wanted {
+    piece(counted(|| curve.between_lengths(l0, l1))).map_or_else(|| no_piece(curve, l0, l1), |(words, numbers)| Wanted::value(words, numbers))
+}
+
+// A split by the published function; how many points were given for each piece is known by its two stretches.
+fn split(curve: &Curve2, answer: Result<(Curve2, Curve2)>, first: [f64; 2], second: [f64; 2]) -> Wanted {
+    match answer {
+        Ok((a, b)) => {
+            let room = 2 * curve.count() + 2;
+            let (mut words, mut numbers) = (vec![], vec![]);
+            for (whole, [l0, l1]) in [(a, first), (b, second)] {
+                let (told, found) = piece(counted(|| curve.between_lengths(l0, l1))).unwrap();
+                assert!(same(&found, &whole.points().iter().flat_map(|p| p.coords.0).collect::<Vec<_>>()));
+                words.extend(told);
+                numbers.extend(&found);
+                numbers.resize(words.len() / 3 * room, REST);
+            }
+            Wanted::value(words, numbers)
+        }
+        Err(e) if e.to_string().starts_with("Cannot") => Wanted::none(22),
+        Err(_) => {
+            let [l0, l1] = if curve.between_lengths(first[0], first[1]).is_none() { first } else { second };
+            no_piece(curve, l0, l1)
+        }
+    }
+}
+
 fn station_answer(s: CurveStation2) -> Wanted {
     let numbers = [point(s.point()), s.direction().into_inner().0.to_vec(), vec![s.fraction()]].concat();
     Wanted::value(vec![s.index() as u64], numbers)
@@ -178,6 +226,9 @@ fn wanted(call: Call, section: &[f64], args: &[f64], store: &[f64]) -> Wanted {
             let s = CurveStation2::new(curve.vtx(i), curve.dir_of_edge(i), i, args[2], &curve);
             Wanted::value(vec![], vec![s.length_along()])
         }
+        Call::Between => between(&curve, args[2], args[3]),
+        Call::SplitOpen => split(&curve, curve.split_open_at_length(args[2]), [0.0, args[2]], [args[2], curve.length()]),
+        Call::SplitClosed => split(&curve, curve.split_closed_at_lengths(args[2], args[3]), [args[2], args[3]], [args[3], args[2]]),
         Call::Closest => station_answer(curve.at_closest_to_point(&Point2::new(args[2], args[3]))),
         Call::CrossingLine => crossed(input.crossing_line(&line_at(&args[2..])).map_or(Wanted::none(8), |l| Wanted::value(vec![], line_numbers(l)))),
         Call::FromCrossing => circle_answer(Some(input.inscribed_from_crossing(&line_at(&args[2..]))), 0),
@@ -282,7 +333,7 @@ fn difference(call: Call, got: &port::Answer, want: &Wanted, store: &[f64]) -> O
     let is_run = matches!(call, Call::RefineAndPush(_) | Call::March | Call::Extract | Call::FitOpenEdge(..));
     if want.number != 0 {
         // A refusal after the entry leaves accepted circles behind in a run; the Rust gives none to compare with.
-        let clean = same(&got.out, &vec![REST; got.out.len()]) && (is_run || got.told[1..] == [0, 0] && same(&got.store, store));
+        let clean = same(&got.out, &vec![REST; got.out.len()]) && (is_run || got.told[1..] == [0; port::WORDS - 1] && same(&got.store, store));
         return if clean { None } else { Some("memory changed by a refusal".into()) };
     }
     if got.told[1..1 + want.words.len()] != want.words {

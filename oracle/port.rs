@@ -17,6 +17,9 @@ pub enum Call {
     AtVertex(usize),
     AtLength,
     LengthAlong(usize),
+    Between,
+    SplitOpen,
+    SplitClosed,
     Closest,
     CrossingLine,
     FromCrossing,
@@ -40,9 +43,13 @@ pub enum Call {
     OrientUpperLower(u64, usize),
 }
 
+// How many words are told at most.
+pub const WORDS: usize = 7;
+
 // What a call leaves: the words told (the number first, 99 where a trial adds nothing), the edges of a crossing where they are told, the numbers put out, and the store.
+// Of a piece the words are its count, whether it is closed, and how many points were given; of a split both pieces have them, and the outputs stand one behind the other.
 pub struct Answer {
-    pub told: [u64; 3],
+    pub told: [u64; WORDS],
     pub edges: Option<[usize; 2]>,
     pub out: Vec<f64>,
     pub store: Vec<f64>,
@@ -54,6 +61,8 @@ pub const REST: f64 = -7.25;
 pub fn call(call: Call, section: &[f64], args: &[f64], store: &[f64]) -> Answer {
     let room = match call {
         Call::FromPoints(_) | Call::Reversed => section.len() + 4,
+        Call::Between => section.len() + 2,
+        Call::SplitOpen | Call::SplitClosed => 2 * section.len() + 4,
         Call::CamberCurve(count) | Call::MakeCamberCurve(count) => 2 * count + 8,
         _ => 2 * WIDTH,
     };
@@ -61,6 +70,7 @@ pub fn call(call: Call, section: &[f64], args: &[f64], store: &[f64]) -> Answer 
     let mut store = store.to_vec();
     let (mut count, mut units, mut yes) = (0usize, 0u32, false);
     let mut edges = [0; 2];
+    let (mut counts, mut closed, mut given) = ([0usize; 2], [false; 2], [0usize; 2]);
     let (p, n, s, l, o, m) = (section.as_ptr(), section.len(), store.as_mut_ptr(), store.len(), out.as_mut_ptr(), out.len());
     // The two tolerances, then a length, a point, a vector or a line; or circles.
     let [t, g, x, y, dx, dy] = std::array::from_fn(|i| args.get(i).copied().unwrap_or(f64::NAN));
@@ -76,6 +86,9 @@ pub fn call(call: Call, section: &[f64], args: &[f64], store: &[f64]) -> Answer 
             Call::AtVertex(index) => rummyteak_at_vertex(p, n, t, index, o, &mut count),
             Call::AtLength => rummyteak_at_length(p, n, t, x, o, &mut count),
             Call::LengthAlong(index) => rummyteak_length_along(p, n, t, index, x, o),
+            Call::Between => rummyteak_between_lengths(p, n, t, x, y, o, m, &mut counts[0], &mut closed[0], &mut given[0]),
+            Call::SplitOpen => rummyteak_split_open_at_length(p, n, t, x, o, m / 2, o.add(m / 2), m / 2, &mut counts, &mut closed, &mut given),
+            Call::SplitClosed => rummyteak_split_closed_at_lengths(p, n, t, x, y, o, m / 2, o.add(m / 2), m / 2, &mut counts, &mut closed, &mut given),
             Call::Closest => rummyteak_at_closest_to_point(p, n, t, x, y, o, &mut count),
             Call::CrossingLine => rummyteak_crossing_line(p, n, t, x, y, dx, dy, o, &mut edges),
             Call::FromCrossing => rummyteak_inscribed_from_crossing(p, n, t, g, x, y, dx, dy, o),
@@ -106,15 +119,21 @@ pub fn call(call: Call, section: &[f64], args: &[f64], store: &[f64]) -> Answer 
             Call::OrientUpperLower(_, stated) => rummyteak_orient_curvature(s, l, stated, &mut yes),
         }
     };
-    let (first, second) = match call {
-        Call::FromPoints(_) | Call::Reversed | Call::CamberCurve(_) | Call::MakeCamberCurve(_) => (count as u64, yes as u64),
-        Call::IsClosed | Call::IsOpenAtEnd(..) | Call::OrientFwdAft(..) | Call::OrientUpperLower(..) => (yes as u64, 0),
-        _ => (count as u64, units as u64),
+    let piece = |k: usize| [counts[k] as u64, closed[k] as u64, given[k] as u64];
+    let mut told = [0; WORDS];
+    told[0] = number as u64;
+    let words = match call {
+        Call::Between => piece(0).to_vec(),
+        Call::SplitOpen | Call::SplitClosed => [piece(0), piece(1)].concat(),
+        Call::FromPoints(_) | Call::Reversed | Call::CamberCurve(_) | Call::MakeCamberCurve(_) => vec![count as u64, yes as u64],
+        Call::IsClosed | Call::IsOpenAtEnd(..) | Call::OrientFwdAft(..) | Call::OrientUpperLower(..) => vec![yes as u64],
+        _ => vec![count as u64, units as u64],
     };
+    told[1..1 + words.len()].copy_from_slice(&words);
     let has_edges = match call {
         Call::CrossingLine | Call::TryInscribed => number == 0,
         Call::March => yes,
         _ => false,
     };
-    Answer { told: [number as u64, first, second], edges: has_edges.then_some(edges), out, store }
+    Answer { told, edges: has_edges.then_some(edges), out, store }
 }

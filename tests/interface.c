@@ -186,6 +186,37 @@ static void sections(void)
     release(r), release(u), release(odd), release(station), release(crossing);
 }
 
+static void stretches(void)
+{
+    const double over[] = {5, 0, 8, 0, 8, 2, 0, 2, 0, 0, 4, 0}, lower[] = {4, 0, 8, 0, 8, 2, 4, 2}, upper[] = {4, 2, 0, 2, 0, 0, 4, 0};
+    const double before[] = {0, 0, 8, 0, 8, 1}, after[] = {8, 1, 8, 2, 0, 2};
+    double *r = copy(R, RLEN), *u = copy(R, ULEN), *out = marked(RLEN + 2), *second = marked(RLEN + 2), *tight = marked(RLEN + 1);
+    size_t count = 77, given = 77, counts[2] = {77, 77}, both[2] = {77, 77};
+    bool closed = true, are_closed[2] = {true, true};
+    EXPECT(rummyteak_between_lengths(r, RLEN, T, 5, 5.0005, out, RLEN + 2, &count, &closed, &given) == 21);
+    EXPECT(rummyteak_between_lengths(u, ULEN, T, 5, 4, out, RLEN + 2, &count, &closed, &given) == 21);
+    EXPECT(rummyteak_between_lengths(r, RLEN, T, 5, 20.5, out, RLEN + 2, &count, &closed, &given) == 9);
+    EXPECT(rummyteak_between_lengths(r, RLEN, T, 5, NAN, out, RLEN + 2, &count, &closed, &given) == 2);
+    EXPECT(rummyteak_between_lengths(r, RLEN, T, 5, 4, tight, RLEN + 1, &count, &closed, &given) == 4);
+    EXPECT(rummyteak_between_lengths(NULL, 0, T, 5, 4, NULL, 0, &count, &closed, &given) == 1);
+    EXPECT(rummyteak_split_open_at_length(r, RLEN, T, 9, out, RLEN + 2, second, RLEN + 2, counts, are_closed, both) == 22);
+    EXPECT(rummyteak_split_closed_at_lengths(u, ULEN, T, 4, 99, out, RLEN + 2, second, RLEN + 2, counts, are_closed, both) == 22);
+    EXPECT(rummyteak_split_closed_at_lengths(r, RLEN, T, 4, 14, out, RLEN + 2, tight, RLEN + 1, counts, are_closed, both) == 4);
+    EXPECT(rummyteak_split_closed_at_lengths(r, RLEN, T, 4, 14, tight, RLEN + 1, out, RLEN + 2, counts, are_closed, both) == 4);
+    EXPECT(rummyteak_split_open_at_length(u, ULEN, T, 17.9995, out, RLEN + 2, second, RLEN + 2, counts, are_closed, both) == 21);
+    EXPECT(count == 77 && given == 77 && closed && untouched(out, 0, RLEN + 2) && untouched(second, 0, RLEN + 2) && untouched(tight, 0, RLEN + 1));
+    EXPECT(counts[0] == 77 && counts[1] == 77 && both[0] == 77 && both[1] == 77 && are_closed[0] && are_closed[1]);
+    EXPECT(rummyteak_between_lengths(r, RLEN, T, 5, 4, out, RLEN + 2, &count, &closed, &given) == 0);
+    EXPECT(count == 6 && given == 6 && !closed && same(out, over, RLEN + 2));
+    EXPECT(rummyteak_split_open_at_length(u, ULEN, T, 9, out, ULEN + 2, second, ULEN + 2, counts, are_closed, both) == 0);
+    EXPECT(counts[0] == 3 && both[0] == 3 && !are_closed[0] && same(out, before, 6) && same(out + 6, over + 6, RLEN - 4));
+    EXPECT(counts[1] == 3 && both[1] == 3 && !are_closed[1] && same(second, after, 6) && untouched(second, 6, RLEN + 2));
+    EXPECT(rummyteak_split_closed_at_lengths(r, RLEN, T, 4, 14, out, RLEN + 2, second, RLEN + 2, counts, are_closed, both) == 0);
+    EXPECT(counts[0] == 4 && both[0] == 4 && !are_closed[0] && same(out, lower, 8));
+    EXPECT(counts[1] == 4 && both[1] == 4 && !are_closed[1] && same(second, upper, 8) && untouched(second, 8, RLEN + 2));
+    release(r), release(u), release(out), release(second), release(tight);
+}
+
 static void circles(void)
 {
     const double want[] = {4, 1.00048828125, 0.99951171875, 4, 0, 4, 2};
@@ -355,6 +386,7 @@ int main(void)
     roots();
     cleaning();
     sections();
+    stretches();
     circles();
     runs();
     lists();

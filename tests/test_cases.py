@@ -25,10 +25,11 @@ NAMES = {name[len("orient_") :]: name for name in _arguments if name.startswith(
 
 # What is handed to a function in C: S section, K store, R output, t and g tolerances, x p l a number, a point or vector and a line among the arguments, a b circles there, n the count or
 # place, y yes or no, u the limit. Then where the answer goes: a digit is so many numbers of the output, C a circle; N and B and U are told, in this order. E is the two
-# edges of a crossing, and F whether they were found.
+# edges of a crossing, and F whether they were found. Of a split T is two counts, V two yes or no, G two more counts, all told as the table tells a split.
 IN_C = {
     "sqrt": "x 1", "from_points": "S t y R N B", "reversed": "S t R N B", "is_closed": "S t B", "length": "S t 1",
     "at_front": "S t 5 N", "at_back": "S t 5 N", "at_vertex": "S t n 5 N", "at_length": "S t x 5 N", "at_closest_to_point": "S t p 5 N",
+    "between_lengths": "S t p R N B N", "split_open_at_length": "S t x R K T V G", "split_closed_at_lengths": "S t p R K T V G",
     "length_along": "S t n x 1", "crossing_line": "S t l 4 E", "joined_crossing": "S t l 4 E",
     "inscribed_from_crossing": "S t g l C", "try_inscribed": "S t g l C E", "inscribed_refined": "S t g a b C B",
     "refine_and_push": "S t g K n a u N U", "march": "S t g l K u N U E F", "extract_circles": "S t g l K u N U",
@@ -43,6 +44,7 @@ IN_C = {
 IN_PYTHON = {
     "sqrt": "x", "from_points": "S t y", "reversed": "S t", "is_closed": "S t", "length": "S t",
     "at_front": "S t", "at_back": "S t", "at_vertex": "S t n", "at_length": "S t x", "at_closest_to_point": "S t p",
+    "between_lengths": "S t p", "split_open_at_length": "S t x", "split_closed_at_lengths": "S t p",
     "length_along": "S t n x", "crossing_line": "S t L", "joined_crossing": "S t L",
     "inscribed_from_crossing": "S t g L", "try_inscribed": "S t g L", "inscribed_refined": "S t g a b",
     "refine_and_push": "S t g k a u s", "march": "S t g L u s", "extract_circles": "S t g L u s",
@@ -121,6 +123,7 @@ class Table:
     def ask_in_c(self, name: str, place: int, yes: int, limit: int):
         """Calls the function, puts what it writes into output and store, and returns the numbers that it answered."""
         handed, answers, told, edges, found = [], [], [], (ctypes.c_size_t * 2)(), None
+        split = {"T": (ctypes.c_size_t * 2)(), "V": (ctypes.c_bool * 2)(), "G": (ctypes.c_size_t * 2)()}
         for sign in IN_C[name].split():
             if sign in "SKR":
                 numbers, length = {"S": (rt._numbers(self.section), len(self.section)), "K": (self.store, self.store_len), "R": (self.out, self.out_len)}[sign]
@@ -132,6 +135,8 @@ class Table:
                 handed.append(told[-1])
             elif sign == "E":
                 handed.append(edges)
+            elif sign in split:
+                handed.append(split[sign])
             elif sign == "F":
                 found = ctypes.c_bool()
                 handed.append(found)
@@ -152,10 +157,15 @@ class Table:
             self.out[: min(count, self.out_len)] = written[: self.out_len]
         elif name == "inscribed_refined":
             result, words = (result, []) if result or words[0] else (99, [])
+        elif name.startswith("split_"):
+            counts, closed, given = split.values()
+            written, words = [*self.out[: 2 * counts[0]], *self.store[: 2 * counts[1]]], [*counts, *given, closed[0] + 2 * closed[1]]
         elif "R" in IN_C[name].split():
             written = self.out[: 2 * words[0]]
         has_edges = found.value if found is not None else "E" in IN_C[name].split() and result == 0
-        self.told = ([result, *words] + [0, 0])[:3] + [int(has_edges), *edges]
+        if has_edges:
+            words = (words + [0, 0])[:2] + [1, *edges]
+        self.told = ([result, *words] + [0] * TOLD)[:TOLD]
         return [] if result else written
 
     # ---- lines
@@ -264,6 +274,11 @@ def in_python(name: str, handed):
         answer = getattr(rt, name)(*handed)
     except rt.Refused as refused:
         return [refused.number] + [0] * (TOLD - 1), [], None
+    if isinstance(answer, rt.Piece):
+        return [0, len(answer.numbers) // 2, int(answer.is_closed), answer.given, 0, 0], answer.numbers, None
+    if name.startswith("split_"):
+        a, b = answer
+        return [0, len(a.numbers) // 2, len(b.numbers) // 2, a.given, b.given, a.is_closed + 2 * b.is_closed], [*a.numbers, *b.numbers], None
     edges = getattr(answer, "edges", None)
     told, numbers, circles = answered(name, answer)
     return told + ([1, *edges] if edges else [0, 0, 0]), numbers, circles

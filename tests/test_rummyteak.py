@@ -23,6 +23,7 @@ ROOT = Path(__file__).resolve().parents[1]
 sys.path.insert(0, str(ROOT / "python"))
 
 import rummyteak as rt  # noqa: E402
+from rummyteak.files import read  # noqa: E402
 from rummyteak.report import ADVICE  # noqa: E402
 
 R = [0, 0, 8, 0, 8, 2, 0, 2, 0, 0]
@@ -73,6 +74,16 @@ class Rows(unittest.TestCase):
         self.refused(4, rt.at_vertex, R, T, 5)
         self.assertEqual(rt.at_closest_to_point(R, T, 4, -1).y, 0)
         self.assertEqual(rt.length_along(R, T, 1, 0.5), 9)
+
+    def test_stretches(self):
+        piece = rt.between_lengths(R, T, 5, 4)
+        self.assertEqual((piece.points(), piece.is_closed, piece.given), ([(5, 0), (8, 0), (8, 2), (0, 2), (0, 0), (4, 0)], False, 6))
+        self.assertEqual([p.points() for p in rt.split_open_at_length(U, T, 9)], [[(0, 0), (8, 0), (8, 1)], [(8, 1), (8, 2), (0, 2)]])
+        self.assertEqual([p.points() for p in rt.split_closed_at_lengths(R, T, 0, 8)], [[(0, 0), (8, 0)], [(8, 0), (8, 2), (0, 2), (0, 0)]])
+        self.refused(21, rt.between_lengths, U, T, 5, 4)
+        self.refused(9, rt.between_lengths, R, T, 5, 21)
+        self.refused(22, rt.split_open_at_length, R, T, 9)
+        self.refused(22, rt.split_closed_at_lengths, U, T, 4, 9)
 
     def test_crossings(self):
         self.assertEqual(rt.crossing_line(R, T, (4, 1, 0, 1)), rt.Crossing(rt.Line2(4, 0, 0, 2), (0, 2)))
@@ -364,6 +375,10 @@ class Command(unittest.TestCase):
         self.assertLess(len(told("--tol", "0.1")["circles"]), len(plain["circles"]))
         self.assertLess(len(told("--section-tol", "1")["points"]), len(plain["points"]))
         self.assertEqual((told("--slots", "9")["number"], told("--limit", "9")["number"]), (15, 14))
+        cut = told("--between", "10", "80")
+        piece = rt.between_lengths(plain["points"], T, 10, 80)
+        self.assertEqual((cut["points"], cut["stretch"], cut["stretch_given"]), (plain["points"], list(piece.numbers), piece.given))
+        self.assertEqual((plain["stretch"], told("--between", "80", "10")["number"]), (None, 21))
 
     def test_outputs(self):
         with tempfile.TemporaryDirectory() as folder:
@@ -379,6 +394,8 @@ class Command(unittest.TestCase):
             header, *rows = Path(names[1]).read_text().splitlines()
             self.assertEqual(header.split(","), list(rt.Inscribed._fields))
             self.assertEqual([[float(x) for x in row.split(",")] for row in rows], told["circles"])
+            self.run_command("examples/open.dat", "--between", "10", "80", "--points", names[1])
+            self.assertEqual(list(read(names[1])), list(rt.between_lengths(told["points"], T, 10, 80).numbers), "a stretch reads back to the same bits")
 
     def test_picture(self):
         def drawn(*args, given=None):
@@ -396,6 +413,7 @@ class Command(unittest.TestCase):
         text, _ = drawn("examples/thick.dat", "--limit", "100")
         for words in ("it stopped here, at circle", "as far as it came", "14: spent"):
             self.assertIn(words, text)
+        self.assertIn("stretch, ", drawn("examples/open.dat", "--between", "10", "80")[0])
         self.assertIn("8: ", drawn("examples/thick.dat", "--line", "90", "0", "0", "1")[0])
         self.assertIn("5: ", drawn("-", "--section-tol", "100", given=self.TEXT)[0])
 

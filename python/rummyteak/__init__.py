@@ -21,9 +21,9 @@ from typing import Any, Iterable, List, NamedTuple, Optional, Sequence, Tuple, U
 from ._library import NO_LIMIT, SLOTS, WORDS, call, real, whole
 
 __all__ = [
-    "Refused", "Curve2", "CurveStation2", "Line2", "Crossing", "Inscribed", "CircleOnLine", "Run", "March", "Fit", "NO_LIMIT", "SLOTS", "WIDTH", "WORDS",
+    "Refused", "Curve2", "Piece", "CurveStation2", "Line2", "Crossing", "Inscribed", "CircleOnLine", "Run", "March", "Fit", "NO_LIMIT", "SLOTS", "WIDTH", "WORDS",
     "sqrt", "from_points", "reversed", "is_closed", "length", "at_front", "at_back", "at_vertex", "at_length", "at_closest_to_point",
-    "length_along", "crossing_line", "joined_crossing", "inscribed_from_crossing", "try_inscribed", "inscribed_refined",
+    "length_along", "between_lengths", "split_open_at_length", "split_closed_at_lengths", "crossing_line", "joined_crossing", "inscribed_from_crossing", "try_inscribed", "inscribed_refined",
     "refine_and_push", "march", "extract_circles", "front_and_back", "index_of_tmax", "average_spacing", "end_clip_line",
     "reverse_points", "reverse_order_only", "reverse_order", "circles_from", "camber_curve", "make_camber_curve",
     "orient_tmax_fwd", "orient_airflow", "orient_fwd", "orient_curvature", "orient_upper", "orient_lower", "is_open_at_end", "fit_open_edge",
@@ -52,6 +52,13 @@ class Curve2:
     def points(self) -> List[Tuple[float, float]]:
         """The points as pairs."""
         return list(zip(self.numbers[::2], self.numbers[1::2]))
+
+
+@dataclass(frozen=True)
+class Piece(Curve2):
+    """A stretch cut out of a section: a cleaned curve, and how many points the cleaning was given."""
+
+    given: int
 
 
 @dataclass(frozen=True)
@@ -172,7 +179,8 @@ Line = Union[Line2, Sequence[float]]
 
 _OWN_ORDER = "<" if sys.byteorder == "little" else ">"
 _Single = ctypes.c_double * WIDTH
-_Edges = ctypes.c_size_t * 2
+_Two = ctypes.c_size_t * 2
+_Both = ctypes.c_bool * 2
 
 
 def _flat(points: Iterable[Any]) -> Any:
@@ -337,9 +345,45 @@ def length_along(section: Points, tol: float, index: int, fraction: float) -> fl
     return answer.value
 
 
+# ---- a stretch of a section
+
+
+def between_lengths(section: Points, tol: float, l0: float, l1: float) -> Piece:
+    """The part from one length along to another, over the seam of a closed section where the second lies before the first."""
+    p = _numbers(section)
+    out = (ctypes.c_double * (len(p) + 2))()
+    count, closed, given = ctypes.c_size_t(), ctypes.c_bool(), ctypes.c_size_t()
+    _ask("between_lengths", p, len(p), tol, l0, l1, out, len(out), count, closed, given)
+    return Piece(array("d", out[: 2 * count.value]), closed.value, given.value)
+
+
+def _split(name: str, section: Points, tol: float, *lengths: float) -> Tuple[Piece, Piece]:
+    p = _numbers(section)
+    first, second = (ctypes.c_double * (len(p) + 2))(), (ctypes.c_double * (len(p) + 2))()
+    counts, closed, given = _Two(), _Both(), _Two()
+    _ask(name, p, len(p), tol, *lengths, first, len(first), second, len(second), counts, closed, given)
+    return (
+        Piece(array("d", first[: 2 * counts[0]]), closed[0], given[0]),
+        Piece(array("d", second[: 2 * counts[1]]), closed[1], given[1]),
+    )
+
+
+def split_open_at_length(section: Points, tol: float, at: float) -> Tuple[Piece, Piece]:
+    """An open section split at a length along."""
+    return _split("split_open_at_length", section, tol, at)
+
+
+def split_closed_at_lengths(section: Points, tol: float, l0: float, l1: float) -> Tuple[Piece, Piece]:
+    """A closed section split at two lengths along: from the first to the second, and from the second to the first."""
+    return _split("split_closed_at_lengths", section, tol, l0, l1)
+
+
+# ---- where a line crosses
+
+
 def _crossing(name: str, section: Points, tol: float, line: Line) -> Crossing:
     p = _numbers(section)
-    numbers, edges = (ctypes.c_double * 4)(), _Edges()
+    numbers, edges = (ctypes.c_double * 4)(), _Two()
     _ask(name, p, len(p), tol, *_line(line), numbers, edges)
     return Crossing(Line2(*numbers), (edges[0], edges[1]))
 
@@ -368,7 +412,7 @@ def inscribed_from_crossing(section: Points, section_tol: float, tol: float, lin
 def try_inscribed(section: Points, section_tol: float, tol: float, line: Line) -> CircleOnLine:
     """The circle on a line, with the edges of the line's crossing."""
     p = _numbers(section)
-    numbers, edges = _Single(), _Edges()
+    numbers, edges = _Single(), _Two()
     _ask("try_inscribed", p, len(p), section_tol, tol, *_line(line), numbers, edges)
     return CircleOnLine(Inscribed(*numbers), (edges[0], edges[1]))
 
@@ -409,7 +453,7 @@ def march(section: Points, section_tol: float, tol: float, line: Line, limit: in
     """The circles on one side of a line, and the edges of the line's crossing."""
     p = _numbers(section)
     store = _stored((), slots)
-    edges, found = _Edges(), ctypes.c_bool()
+    edges, found = _Two(), ctypes.c_bool()
     run = _run("march", store, p, len(p), section_tol, tol, *_line(line), store, len(store), limit, more=(edges, found))
     return March(run.number, run.circles, run.units, (edges[0], edges[1]) if found.value else None)
 

@@ -14,7 +14,7 @@ from ._library import load
 from .blade import Options, worked_out
 from .files import Unreadable, read
 from .picture import svg
-from .report import NO_INPUT, NO_LIBRARY, NO_OUTPUT, WRONG_CALL, as_csv, as_json, message, table, told
+from .report import NO_INPUT, NO_LIBRARY, NO_OUTPUT, WRONG_CALL, as_csv, as_json, as_points, message, table, told
 
 
 class _Parser(argparse.ArgumentParser):
@@ -46,6 +46,7 @@ def parser() -> argparse.ArgumentParser:
     words.add_argument("--section-tol", type=float, default=default.section_tol, help="section tolerance in mm (%(default)s)")
     words.add_argument("--tol", type=float, default=default.tol, help="general tolerance in mm (%(default)s)")
     words.add_argument("--force-closed", action="store_true", help="close the section by force")
+    words.add_argument("--between", type=float, nargs=2, metavar=("L0", "L1"), help="only the stretch between two lengths along the section, over the seam of a closed one where the second lies before the first")
     words.add_argument("--line", type=float, nargs=4, metavar=("OX", "OY", "DX", "DY"), help="reference line (without: across the middle of the longest chord)")
     forward = words.add_mutually_exclusive_group()
     forward.add_argument("--fwd", type=float, nargs=2, metavar=("X", "Y"), help="a vector that points forward")
@@ -57,6 +58,7 @@ def parser() -> argparse.ArgumentParser:
     words.add_argument("--end", choices=("auto", "front", "back", "none"), default=default.end, help="which end's open edge is fitted (%(default)s)")
     words.add_argument("--limit", type=_whole(NO_LIMIT), default=default.limit, help="units at most in each run: the circles, and the open edge (no limit)")
     words.add_argument("--slots", type=_whole(SLOTS), default=default.slots, help="circles at most (%(default)s)")
+    words.add_argument("--points", metavar="FILE", help="write the points of the section, cleaned and cut, as x y lines; - is standard output")
     words.add_argument("--csv", metavar="FILE", help="write the circles as CSV; - is standard output")
     words.add_argument("--json", metavar="FILE", help="write everything as JSON; - is standard output")
     words.add_argument("--svg", metavar="FILE", help="write the picture; - is standard output")
@@ -71,7 +73,7 @@ def options_of(args: argparse.Namespace) -> Options:
 
     line = None if args.line is None else (args.line[0], args.line[1], args.line[2], args.line[3])
     return Options(
-        args.section_tol, args.tol, args.force_closed, line, pair(args.fwd), pair(args.airflow), args.curvature, pair(args.upper), pair(args.lower), args.end, args.limit, args.slots
+        args.section_tol, args.tol, args.force_closed, pair(args.between), line, pair(args.fwd), pair(args.airflow), args.curvature, pair(args.upper), pair(args.lower), args.end, args.limit, args.slots
     )
 
 
@@ -120,11 +122,12 @@ def _one(name: str, options: Options, args: argparse.Namespace) -> int:
         sys.stderr.write(f"rummyteak: {error}\n")
         return NO_INPUT
     wanted: List[Tuple[Optional[str], Callable[[], str]]] = [
+        (args.points, lambda: as_points(blade)),
         (args.csv, lambda: as_csv(blade)),
         (args.json, lambda: as_json(name, blade, options)),
         (args.svg, lambda: svg(blade, name)),
     ]
-    if "-" not in (args.csv, args.json, args.svg):
+    if "-" not in (args.points, args.csv, args.json, args.svg):
         sys.stdout.write(table(name, blade))
     for where, text in wanted:
         if where == "-":
@@ -143,9 +146,9 @@ def main(arguments: Optional[List[str]] = None) -> int:
     """Runs the command and returns its exit status."""
     words = parser()
     args = words.parse_args(arguments)
-    outputs = [name for name in (args.csv, args.json, args.svg) if name is not None]
+    outputs = [name for name in (args.points, args.csv, args.json, args.svg) if name is not None]
     if outputs and len(args.files) > 1:
-        words.error("--csv, --json and --svg go with one file")
+        words.error("--points, --csv, --json and --svg go with one file")
     if len(set(outputs)) < len(outputs):
         words.error("two outputs have the same name")
     try:

@@ -1,4 +1,4 @@
-"""One section through all steps: cleaned, its circles found, oriented, its open edge fitted, its camber line drawn.
+"""One section through all steps: cleaned, cut where a stretch of it is wanted, its circles found, oriented, its open edge fitted, its camber line drawn.
 
 No rule stands here but which call follows which, and where the reference line is without one: across the middle of the longest chord."""
 
@@ -21,6 +21,7 @@ class Options:
     section_tol: float = 0.001
     tol: float = 0.01
     force_closed: bool = False
+    between: Optional[Pair] = None
     line: Optional[Tuple[float, float, float, float]] = None
     fwd: Optional[Pair] = None
     airflow: Optional[Pair] = None
@@ -39,6 +40,7 @@ class Blade:
 
     points: int = 0
     curve: Optional[rt.Curve2] = None
+    stretch: Optional[rt.Piece] = None
     line: Optional[rt.Line2] = None
     line_given: bool = False
     crossing: Optional[rt.Crossing] = None
@@ -53,6 +55,11 @@ class Blade:
     thickest: Optional[int] = None
     number: int = 0
     step: str = ""
+
+    @property
+    def section(self) -> Optional[rt.Curve2]:
+        """What the circles lie in: the stretch where one is wanted, or else the cleaned section."""
+        return self.stretch or self.curve
 
     @property
     def ending(self) -> str:
@@ -102,15 +109,22 @@ class _Steps:
         self.blade.curve = rt.from_points(self.points, self.options.section_tol, self.options.force_closed)
         return 0
 
+    def stretch(self) -> int:
+        blade, o = self.blade, self.options
+        if o.between is not None:
+            blade.stretch = rt.between_lengths(blade.curve, o.section_tol, *o.between)
+        return 0
+
     def circles(self) -> int:
         blade, o = self.blade, self.options
-        assert blade.curve is not None
+        section = blade.section
+        assert section is not None
         blade.line_given = o.line is not None
-        blade.line = middle_line(blade.curve) if o.line is None else rt.Line2(*o.line)
-        run = rt.extract_circles(blade.curve, o.section_tol, o.tol, blade.line, o.limit, o.slots)
+        blade.line = middle_line(section) if o.line is None else rt.Line2(*o.line)
+        run = rt.extract_circles(section, o.section_tol, o.tol, blade.line, o.limit, o.slots)
         blade.circles, blade.units = run.circles, run.units
         if run.circles:
-            blade.crossing = rt.crossing_line(blade.curve, o.section_tol, blade.line)
+            blade.crossing = rt.crossing_line(section, o.section_tol, blade.line)
         return run.number
 
     def orientation(self) -> int:
@@ -133,11 +147,11 @@ class _Steps:
         blade, o = self.blade, self.options
         end = o.end
         if end == "auto":
-            front, back = (rt.is_open_at_end(blade.curve, o.section_tol, o.tol, blade.circles, at_front) for at_front in (True, False))
+            front, back = (rt.is_open_at_end(blade.section, o.section_tol, o.tol, blade.circles, at_front) for at_front in (True, False))
             end = "back" if back else "front" if front else "none"
         if end == "none":
             return 0
-        fit = rt.fit_open_edge(blade.curve, o.section_tol, o.tol, blade.circles, end == "front", o.limit, o.slots)
+        fit = rt.fit_open_edge(blade.section, o.section_tol, o.tol, blade.circles, end == "front", o.limit, o.slots)
         blade.circles, blade.edge, blade.edge_at = fit.circles, fit.point, end
         blade.units += fit.units
         return fit.number
@@ -168,7 +182,7 @@ class _Steps:
 def worked_out(points: Any, options: Options) -> Blade:
     """All that is to be had of a section; its points are whatever the module takes as points."""
     steps = _Steps(points, options)
-    for step in (steps.cleaning, steps.circles, steps.orientation, steps.open_edge):
+    for step in (steps.cleaning, steps.stretch, steps.circles, steps.orientation, steps.open_edge):
         if not steps.blade.number:
             steps.take(step)
     steps.take(steps.camber_line)

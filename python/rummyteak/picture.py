@@ -15,7 +15,7 @@ WIDE, MARGIN, HIGHEST = 1000.0, 40.0, 560.0
 DETAIL_WIDE, DETAIL_HIGH = 450.0, 230.0
 TEXT, ROW = 17.0, 27.0
 
-SECTION, CIRCLE, TINT, THICKEST = "#222222", "#4488bb", "#e4eff8", "#ee7733"
+SECTION, REST, CIRCLE, TINT, THICKEST = "#222222", "#b5b5b5", "#4488bb", "#e4eff8", "#ee7733"
 CAMBER, P0, P1, REFERENCE, EDGE, HIT = "#cc3311", "#009988", "#aa4499", "#888888", "#dd2277", "#ccaa00"
 GOOD, BAD = "#117733", "#bb1111"
 
@@ -64,8 +64,9 @@ def _stopped(blade: Blade) -> Optional[int]:
 
 def _drawing(blade: Blade, page: _Page, wide: float, high: float, bold: float) -> List[str]:
     """Everything that lies in a window; strokes and dots are `bold` times as large as in the whole picture."""
-    assert blade.curve is not None
-    points = blade.curve.points()
+    section = blade.section
+    assert section is not None
+    points = section.points()
     stop = _stopped(blade)
 
     def seen(c: Inscribed) -> bool:
@@ -74,6 +75,8 @@ def _drawing(blade: Blade, page: _Page, wide: float, high: float, bold: float) -
 
     shown = [(k, c) for k, c in enumerate(blade.circles) if seen(c)]
     out = [f'<path d="{"".join(page.disc(c) for _, c in shown)}" fill="{TINT}"/>'] if shown else []
+    if blade.stretch is not None and blade.curve is not None:
+        out.append(f'<path d="{page.path(blade.curve.points())}" {_stroke(REST, 1.3 * bold)} stroke-linejoin="round"/>')
     out.append(f'<path d="{page.path(points)}" {_stroke(SECTION, 1.3 * bold)} stroke-linejoin="round"/>')
     for k, c in shown:
         out.append(f'<g class="c">{_tooltip(k, c)}<path d="{page.disc(c)}" {_stroke(CIRCLE, 0.6 * bold)}/>{_dot(page.at(c.p0), 1.5 * bold, P0)}{_dot(page.at(c.p1), 1.5 * bold, P1)}</g>')
@@ -89,7 +92,7 @@ def _drawing(blade: Blade, page: _Page, wide: float, high: float, bold: float) -
         for i, hit in zip(blade.crossing.edges, ((x.ox, x.oy), (x.ox + x.dx, x.oy + x.dy))):
             at = page.at(hit)
             out.append(f'<g><title>the reference line crosses edge {i}</title><path d="{page.path(points[i : i + 2])}" {_stroke(HIT, 4 * bold)} stroke-linecap="round"/>{_dot(at, 2.6 * bold, HIT)}</g>')
-    if not blade.curve.is_closed:
+    if not section.is_closed:
         out.append(f'<path d="{page.path([points[0], points[-1]])}" {_stroke(EDGE, 1.6 * bold, "4 3")}/>')
     for ringed, colour in ((blade.thickest, THICKEST), (stop, BAD)):
         if ringed is not None:
@@ -110,7 +113,8 @@ def _window(x: float, y: float, wide: float, high: float, inside: List[str], fra
 
 def _legend(blade: Blade) -> List[Tuple[str, str]]:
     """A sign, drawn around (0, 0), and what it stands for."""
-    assert blade.curve is not None
+    section = blade.section
+    assert blade.curve is not None and section is not None
 
     def line(colour: str, dash: str = "") -> str:
         return f'<path d="M-16,0H16" {_stroke(colour, 2.4, dash)}/>'
@@ -118,7 +122,9 @@ def _legend(blade: Blade) -> List[Tuple[str, str]]:
     def ring(colour: str, width: float) -> str:
         return f'<circle r="9" {_stroke(colour, width)}/>'
 
-    rows = [(line(SECTION), f"section, {len(blade.curve.points())} of {blade.points} points kept, {'closed' if blade.curve.is_closed else 'open'}")]
+    rows = [(line(REST if blade.stretch else SECTION), f"section, {len(blade.curve.points())} of {blade.points} points kept, {'closed' if blade.curve.is_closed else 'open'}")]
+    if blade.stretch is not None:
+        rows.append((line(SECTION), f"stretch, {len(section.points())} of {blade.stretch.given} points kept, {'closed' if section.is_closed else 'open'}"))
     if blade.line is not None:
         d = blade.line
         rows.append((line(REFERENCE, "6 4"), f"reference line from ({d.ox:.3g}, {d.oy:.3g}) along ({d.dx:.3g}, {d.dy:.3g})"))
@@ -134,7 +140,7 @@ def _legend(blade: Blade) -> List[Tuple[str, str]]:
         rows.append((ring(THICKEST, 2.6), f"greatest thickness {2 * blade.circles[blade.thickest].r:.6g}, circle {blade.thickest}"))
     if blade.camber_length is not None:
         rows.append((line(CAMBER), f"camber line, length {blade.camber_length:.6g}" + (", as far as it came" if stop is not None else "")))
-    if not blade.curve.is_closed:
+    if not section.is_closed:
         rows.append((line(EDGE, "4 3"), "gap"))
     if blade.edge is not None:
         rows.append((_dot((0, 0), 5, EDGE), f"open-edge point ({blade.edge[0]:.6g}, {blade.edge[1]:.6g}), at the {blade.edge_at}"))

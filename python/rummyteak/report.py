@@ -24,7 +24,7 @@ ADVICE = {
     6: "hand in a smaller --section-tol",
     7: "hand in another --line, or a smaller --tol",
     8: "hand in another --line, one that crosses the section exactly twice and at no vertex",
-    9: "hand in another length",
+    9: "hand in lengths from 0 to the whole",
     10: "hand in a larger --tol, or a --line nearer to the section",
     11: "look for doubled points, and hand in another --line",
     12: "look for numbers of very different sizes, and hand in another --line",
@@ -36,7 +36,7 @@ ADVICE = {
     18: "name the other --end, or leave the edges alone with --end none",
     19: "name the other --end, or leave the edges alone with --end none",
     20: "name the other --end, or leave the edges alone with --end none",
-    21: "hand in lengths farther apart",
+    21: "hand in lengths farther apart, the smaller one first where the section is open",
     22: "ask for the split of the other kind of section",
 }
 
@@ -46,6 +46,9 @@ def table(name: str, blade: Blade) -> str:
     rows: List[Tuple[str, str]] = [("section", name)]
     if blade.curve is not None:
         rows.append(("points", f"{len(blade.curve.numbers) // 2} of {blade.points} kept, {'closed' if blade.curve.is_closed else 'open'}"))
+    if blade.stretch is not None:
+        s = blade.stretch
+        rows.append(("stretch", f"{len(s.numbers) // 2} of {s.given} points kept, {'closed' if s.is_closed else 'open'}"))
     if blade.line is not None:
         d = blade.line
         rows.append(("reference line", f"from ({d.ox:.6g}, {d.oy:.6g}) along ({d.dx:.6g}, {d.dy:.6g})" + ("" if blade.line_given else ", across the middle of the longest chord")))
@@ -89,6 +92,11 @@ def told(name: str, options: Options) -> Tuple[str, int]:
     return line(name, blade), blade.number
 
 
+def as_points(blade: Blade) -> str:
+    """The points of the section, a line each, each number so that it reads back to the same bits."""
+    return "".join(f"{x!r} {y!r}\n" for x, y in blade.section.points()) if blade.section else ""
+
+
 def as_csv(blade: Blade) -> str:
     """The circles, each number so that it reads back to the same bits."""
     text = io.StringIO()
@@ -108,6 +116,9 @@ def as_json(name: str, blade: Blade, options: Options) -> str:
         "options": asdict(options),
         "points": list(blade.curve.numbers) if blade.curve else [],
         "closed": blade.curve.is_closed if blade.curve else None,
+        "stretch": list(blade.stretch.numbers) if blade.stretch else None,
+        "stretch_closed": blade.stretch.is_closed if blade.stretch else None,
+        "stretch_given": blade.stretch.given if blade.stretch else None,
         "line": blade.line,
         "crossing": blade.crossing.line if blade.crossing else None,
         "edges": blade.crossing.edges if blade.crossing else None,

@@ -18,6 +18,7 @@ use rummyteak::run;
 use rummyteak::section;
 use rummyteak::turning;
 
+mod pieces;
 mod steps;
 mod stores;
 
@@ -280,7 +281,7 @@ fn ask_fit(
 }
 
 // The number of what `kind` stands for: curves to 3, yes or no to 10 and 45, numbers to 14, stations to 19, lines to 22, circles to 25, runs to 28, the open edge 29,
-// lists to 35 and 44, and single steps from 36 on.
+// lists to 35 and 44, and single steps from 36 to 43. Pieces, from 46 to 48, tell their words themselves.
 fn number_of(
     kind: u64,
     section: &[f64],
@@ -353,6 +354,14 @@ fn has_edges(kind: u64, number: u32, found: bool) -> bool {
     }
 }
 
+// Which functions tell their words themselves: those that cut a stretch out of a section.
+fn is_piece(kind: u64) -> bool {
+    match kind {
+        46..=48 => true,
+        _ => false,
+    }
+}
+
 // Behind the number come the count and whether a curve is closed, a yes or no alone, or a count, an edge, a place or a root, and the units; then the edges.
 pub(crate) fn ask(
     kind: u64,
@@ -365,6 +374,10 @@ pub(crate) fn ask(
     out: &mut [f64],
     told: &mut [u64],
 ) {
+    if is_piece(kind) {
+        pieces::ask_piece(kind, section, args, store, out, told);
+        return;
+    }
     let mut count = word_at(told, 1) as usize;
     let mut units = (word_at(told, 2) % 0x1_0000_0000) as u32;
     let mut yes = false;

@@ -24,7 +24,7 @@ fn kind_of(name: &[u8]) -> u64 {
         refine_and_push march extract_circles fit_open_edge \
         index_of_tmax front_and_back reverse_points reverse_order reverse_order_only circles_from \
         rot90 normalize halfway intersection_param closest_on_edge end_camber_ray isqrt_u64 isqrt_u32 index_of_tmax_of \
-        curvature";
+        curvature between_lengths split_open_at_length split_closed_at_lengths";
     tables::place_of(names, name)
 }
 

@@ -9,6 +9,8 @@ use Rattle.points.specs.declared.Point2.{Point2}
 use Rattle.line2.specs.declared.Line2.{Line2}
 use Rattle.curve2.specs.declared.CurveStation2.{CurveStation2}
 use Rattle.cleaning.specs.declared.Curve.{Curve}
+use Rattle.partitioning.specs.declared.Piece.{Piece}
+use Rattle.partitioning.specs.declared.Pieces.{Pieces}
 use Rattle.queries.specs.declared.HitEdges.{HitEdges}
 use Rattle.queries.specs.declared.Crossing.{Crossing}
 use Rattle.circles.specs.declared.CircleOnLine.{CircleOnLine}
@@ -99,6 +101,22 @@ endsLeft e = endCells (numbersOf (e .front)) (numbersOf (e .back))
 -- a curve's count of points, and whether it is closed
 abbrev pub curveCells : ℕ → Bool → Curve
 curveCells n b = record { count = n; «is_closed» = b }
+
+-- a piece's count of points, whether it is closed, and the count of points given
+abbrev pub pieceCells : ℕ → Bool → ℕ → Piece
+pieceCells n b g = record { count = n; «is_closed» = b; given = g }
+
+-- the same of both pieces of a split
+pub record PiecesCells : Type 0 where
+  pub counts : List ℕ
+  pub closed : List Bool
+  pub given : List ℕ
+
+abbrev pub piecesCells : List ℕ → List Bool → List ℕ → PiecesCells
+piecesCells ns bs gs = record { counts = ns; closed = bs; given = gs }
+
+abbrev pub piecesLeft : Pieces → PiecesCells
+piecesLeft p = piecesCells (p .first .count ∷ p .second .count ∷ []) (p .first .«is_closed» ∷ p .second .«is_closed» ∷ []) (p .first .given ∷ p .second .given ∷ [])
 
 -- a part of a store: where it starts, and how many numbers it has
 pub record PartCells : Type 0 where

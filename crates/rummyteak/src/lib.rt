@@ -1,4 +1,4 @@
-// The C interface: one function for each entry point of the library. Each returns document 01's number of its ending, 0 for a result, and writes its values only where there is a result;
+// The C interface: one function for each entry point of the library. Each returns document 01's or 02's number of its ending, 0 for a result, and writes its values only where there is a result;
 // a run writes its count and its units wherever it was not refused on entry.
 pub mod circle;
 pub mod curve;
@@ -7,6 +7,7 @@ mod given;
 pub mod list;
 pub mod run;
 pub mod section;
+pub mod stretch;
 mod telling;
 pub mod turning;
 

@@ -15,6 +15,8 @@ use inscribed::InscribedAnswer;
 use inscribed::store::WIDTH;
 use line2::LineAnswer;
 use lists::PlaceAnswer;
+use partitioning::PieceAnswer;
+use partitioning::PiecesAnswer;
 use queries::CrossingAsked;
 use refine::RunAnswer;
 use sections::BoolAnswer;
@@ -27,6 +29,7 @@ ghost use Rattle.curve2.specs.Entry.{listedEntry};
 ghost use Rattle.curve2.specs.Stations.{listedStation};
 ghost use Rattle.cleaning.specs.Cleaning.{listedCurve};
 ghost use Rattle.sections.specs.Asked.{listedBool};
+ghost use Rattle.partitioning.specs.Pieces.{listedPiece, listedPieces};
 ghost use Rattle.queries.specs.Crossing.{listedCrossingAsked};
 ghost use Rattle.circles.specs.Asked.{listedCircleOnLine};
 ghost use Rattle.camber.specs.March.{listedEdges, listedMarch};
@@ -38,7 +41,7 @@ ghost use Rattle.refine.specs.Report.{listedCalled};
 ghost use Rattle.lists.specs.Asked.{listedPlace};
 ghost use Rattle.gap.specs.Rounds.{listedEdgeEnd};
 ghost use Rattle.edges.specs.Edges.{listedFitCall};
-ghost use Rattle.rummyteak.specs.Told.{toldAs, told, lineNumbers, crossingCells, crossingLeft, circleOnLineLeft, startCells, edgesLeft, startLeft, stationCells, stationLeft, trialCells, trialLeft, endCells, endsLeft, curveCells, toldRun, pointAtEnd, pointLeft};
+ghost use Rattle.rummyteak.specs.Told.{toldAs, told, lineNumbers, crossingCells, crossingLeft, circleOnLineLeft, startCells, edgesLeft, startLeft, stationCells, stationLeft, trialCells, trialLeft, endCells, endsLeft, curveCells, pieceCells, piecesCells, piecesLeft, toldRun, pointAtEnd, pointLeft};
 
 // A number.
 pub(crate) fn tell_scalar(a: ScalarAnswer, value: &mut f64) -> u32
@@ -248,6 +251,57 @@ pub(crate) fn tell_curve(a: CurveAnswer, count: &mut usize, is_closed: &mut bool
             0
         }
         CurveAnswer::Refused(r) => errors::number(r),
+    }
+}
+
+// A piece: how many points it has, whether it is closed, and how many points its walk gave. The output was written by the call.
+pub(crate) fn tell_piece(
+    a: PieceAnswer,
+    count: &mut usize,
+    is_closed: &mut bool,
+    given: &mut usize,
+) -> u32
+    ensures { λ r. ⌜ (record { number = r; left = pieceCells (now (count .exit)) (now («is_closed» .exit)) (now (given .exit)) }) ≡ told (pieceCells (now (count .entry)) (now («is_closed» .entry)) (now (given .entry))) (listedPiece a) ⌝ }
+{
+    match a {
+        PieceAnswer::Value(p) => {
+            let n = p.count;
+            let closed = p.is_closed;
+            let g = p.given;
+            *count = n;
+            *is_closed = closed;
+            *given = g;
+            0
+        }
+        PieceAnswer::Refused(r) => errors::number(r),
+    }
+}
+
+// Both pieces of a split. The outputs were written by the call.
+pub(crate) fn tell_pieces(
+    a: PiecesAnswer,
+    counts: &mut [usize; 2],
+    are_closed: &mut [bool; 2],
+    given: &mut [usize; 2],
+) -> u32
+    ensures { λ r. ⌜ (record { number = r; left = piecesCells (now (counts .exit)) (now («are_closed» .exit)) (now (given .exit)) }) ≡ toldAs piecesLeft (piecesCells (now (counts .entry)) (now («are_closed» .entry)) (now (given .entry))) (listedPieces a) ⌝ }
+{
+    match a {
+        PiecesAnswer::Value(p) => {
+            let first = p.first;
+            let second = p.second;
+            let n0 = first.count;
+            let n1 = second.count;
+            let closed0 = first.is_closed;
+            let closed1 = second.is_closed;
+            let g0 = first.given;
+            let g1 = second.given;
+            *counts = [n0, n1];
+            *are_closed = [closed0, closed1];
+            *given = [g0, g1];
+            0
+        }
+        PiecesAnswer::Refused(r) => errors::number(r),
     }
 }
 
