@@ -21,9 +21,9 @@ pub fn enters(section: &[f64], tol: f64, bad: bool) -> bool {
     true
 }
 
-// Of a run: a finite line or finite circles beside the section, and the general tolerance.
+// Of a run: a finite line or finite circles beside the section, and the general tolerance, which is no finer than the section's.
 pub fn enters_run(section: &[f64], section_tol: f64, tol: f64, numbers: &[f64]) -> bool {
-    enters(section, section_tol, !numbers.iter().all(|x| x.is_finite()) || !(1e-6..=1e3).contains(&tol))
+    enters(section, section_tol, !numbers.iter().all(|x| x.is_finite()) || !(1e-6..=1e3).contains(&tol) || tol < section_tol)
 }
 
 // ---- calls

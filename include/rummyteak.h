@@ -80,7 +80,9 @@ enum rummyteak_ending {
      * section, or of under two points */
     RUMMYTEAK_EMPTY_STRETCH = 21,
     /* a split asked of the wrong kind of section: an open one of a closed section, or the other way round */
-    RUMMYTEAK_WRONG_KIND = 22
+    RUMMYTEAK_WRONG_KIND = 22,
+    /* a run with a general tolerance smaller than its section tolerance; tested straight after 3 */
+    RUMMYTEAK_FINER_THAN_SECTION = 23
 };
 
 /* ---- the square root */
@@ -160,7 +162,7 @@ uint32_t rummyteak_try_inscribed(const double *section, size_t section_len, doub
 uint32_t rummyteak_inscribed_refined(const double *section, size_t section_len, double section_tol, double tol,
                                      const double *a, const double *b, double *circle, bool *added);
 
-/* ---- runs within a limit of units */
+/* ---- runs within a limit of units; these, and the fit of the open edge, are 23 where tol is smaller than section_tol */
 
 /* Offers a circle to a store that holds `stated`, and refines until none waits. */
 uint32_t rummyteak_refine_and_push(const double *section, size_t section_len, double section_tol, double tol,

@@ -313,9 +313,9 @@ pub struct Tally {
     most_circles: u64,
 }
 
-// The numbers of 01's "Domain" that are added, and no answer of the Rust.
+// The numbers of 01's "Domain" that are added, and 02 (e)'s 23: no answer of the Rust.
 fn is_added(number: u64) -> bool {
-    matches!(number, 1..=4 | 6 | 10..=12 | 14..=16)
+    matches!(number, 1..=4 | 6 | 10..=12 | 14..=16 | 23)
 }
 
 fn same(a: &[f64], b: &[f64]) -> bool {

@@ -264,7 +264,10 @@ static void runs(void)
     found = true;
     count = 77, units = 77;
     EXPECT(rummyteak_march(r, RLEN, T, NAN, 4, 1, 0, 1, none, W - 1, 9, &count, &units, edges, &found) == 3 && count == 77 && units == 77);
+    /* a general tolerance finer than the section's */
+    EXPECT(rummyteak_march(r, RLEN, G, T, 4, 1, 0, 1, none, W - 1, 9, &count, &units, edges, &found) == 23 && count == 77 && units == 77);
     EXPECT(found && edges[0] == 77 && edges[1] == 77);
+    EXPECT(rummyteak_extract_circles(r, RLEN, G, T, 4, 1, 0, 1, none, W - 1, 9, &count, &units) == 23 && count == 77);
     EXPECT(rummyteak_extract_circles(odd, 5, T, G, 4, 1, 0, 1, none, W - 1, 9, &count, &units) == 1 && count == 77);
     EXPECT(untouched(none, 0, W - 1));
     for (size_t i = 0; i < W * 200; i++)
@@ -279,6 +282,7 @@ static void runs(void)
     count = 77, units = 77;
     EXPECT(rummyteak_refine_and_push(r, RLEN, T, G, full_store, 2 * W, 3, circle, 100, &count, &units) == 4);
     EXPECT(rummyteak_refine_and_push(r, RLEN, T, G, full_store, 2 * W, SIZE_MAX, circle, 100, &count, &units) == 4);
+    EXPECT(rummyteak_refine_and_push(r, RLEN, G, T, full_store, 2 * W, 3, circle, 100, &count, &units) == 23);
     EXPECT(rummyteak_refine_and_push(r, RLEN, T, G, store, 3 * W, 3, circle, 100, &count, &units) == 2);
     EXPECT(count == 77 && units == 77 && same(store, PAIR, 2 * W) && untouched(store, 2 * W, 3 * W) && same(full_store, PAIR, 2 * W));
     release(r), release(odd), release(full_store), release(circle), release(big), release(small), release(none), release(store);
@@ -377,6 +381,8 @@ static void edges(void)
     EXPECT(count == 3 && units == 0);
     count = 77, units = 77;
     EXPECT(rummyteak_fit_open_edge(r, ULEN, T, G, store, 3 * W, 4, true, 1, point, &count, &units) == 4);
+    EXPECT(rummyteak_fit_open_edge(r, ULEN, G, T, store, 3 * W, 4, true, 1, point, &count, &units) == 23);
+    EXPECT(rummyteak_is_open_at_end(r, ULEN, G, T, store, 3 * W, 2, true, &open) == 0);
     EXPECT(count == 77 && units == 77);
     release(r), release(closed), release(store), release(point);
 }

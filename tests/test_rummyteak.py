@@ -134,6 +134,8 @@ class Rows(unittest.TestCase):
         spent = rt.fit_open_edge(U, T, G, PAIR, True, 0, 3)
         self.assertEqual((spent.number, spent.circles, spent.units), (14, PAIR, 0))
         self.refused(3, rt.fit_open_edge, U, T, float("nan"), PAIR, True)
+        self.refused(23, rt.fit_open_edge, U, G, T, PAIR, True)
+        self.assertTrue(rt.is_open_at_end(U, G, T, PAIR, True))
 
     def test_limits(self):
         plain = rt.march(R, T, G, (4, 1, 0, 1))
@@ -350,7 +352,7 @@ class Command(unittest.TestCase):
         self.assertIn("--limit", spent.stderr)
         run = rt.extract_circles(R, T, G, (4, 1, 0, 1), 3)
         self.assertEqual([tuple(map(float, row.split(","))) for row in spent.stdout.splitlines()[1:]], [tuple(c) for c in run.circles], "its circles are written")
-        for number, args in ((8, ("--line", "40", "1", "0", "1")), (3, ("--tol", "0")), (2, ("--line", "nan", "1", "0", "1")), (15, ("--slots", "2", "--line", "4", "1", "0.1", "1")), (5, ("--section-tol", "100"))):
+        for number, args in ((8, ("--line", "40", "1", "0", "1")), (3, ("--tol", "0")), (2, ("--line", "nan", "1", "0", "1")), (15, ("--slots", "2", "--line", "4", "1", "0.1", "1")), (5, ("--section-tol", "100")), (23, ("--section-tol", "0.02"))):
             done = self.run_command("-", *args, given=self.TEXT)
             self.assertEqual(done.returncode, number)
             self.assertIn(f"{number}: {rt.WORDS[number]}", done.stdout)
@@ -373,7 +375,7 @@ class Command(unittest.TestCase):
         self.assertEqual(told("--upper", "0", "1")["swapped"], not told("--lower", "0", "1")["swapped"])
         self.assertEqual(told("--curvature")["swapped"], told("--upper", "0", "1")["swapped"])
         self.assertLess(len(told("--tol", "0.1")["circles"]), len(plain["circles"]))
-        self.assertLess(len(told("--section-tol", "1")["points"]), len(plain["points"]))
+        self.assertLess(len(told("--section-tol", "1", "--tol", "1")["points"]), len(plain["points"]))
         self.assertEqual((told("--slots", "9")["number"], told("--limit", "9")["number"]), (15, 14))
         cut = told("--between", "10", "80")
         piece = rt.between_lengths(plain["points"], T, 10, 80)

@@ -44,7 +44,7 @@ def parser() -> argparse.ArgumentParser:
     )
     words.add_argument("files", nargs="+", metavar="FILE", help="x y pairs in lines; - is standard input. Several files: one line each")
     words.add_argument("--section-tol", type=float, default=default.section_tol, help="section tolerance in mm (%(default)s)")
-    words.add_argument("--tol", type=float, default=default.tol, help="general tolerance in mm (%(default)s)")
+    words.add_argument("--tol", type=float, default=default.tol, help="general tolerance in mm, no smaller than the section tolerance (%(default)s)")
     words.add_argument("--force-closed", action="store_true", help="close the section by force")
     words.add_argument("--between", type=float, nargs=2, metavar=("L0", "L1"), help="only the stretch between two lengths along the section, over the seam of a closed one where the second lies before the first")
     words.add_argument("--line", type=float, nargs=4, metavar=("OX", "OY", "DX", "DY"), help="reference line (without: across the middle of the longest chord)")

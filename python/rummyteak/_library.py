@@ -37,6 +37,7 @@ WORDS = {
     20: "the camber line misses the gap",
     21: "the stretch is empty: its lengths are too near, its end lies before its start, or under two points remain",
     22: "the split is for the other kind of section, open or closed",
+    23: "the general tolerance is smaller than the section tolerance",
 }
 
 

@@ -38,6 +38,7 @@ ADVICE = {
     20: "name the other --end, or leave the edges alone with --end none",
     21: "hand in lengths farther apart, the smaller one first where the section is open",
     22: "ask for the split of the other kind of section",
+    23: "hand in a --tol no smaller than --section-tol",
 }
 
 

@@ -8,6 +8,7 @@ use lib.Ieee.{Float, lt}
 use Rattle.errors.specs.Answer.{Answer, result, refusal, _>>=_}
 use Rattle.errors.specs.Lists.{lastOf}
 use Rattle.line2.specs.declared.Line2.{Line2}
+use Rattle.curve2.specs.Entry.{finerGeneral}
 use Rattle.queries.specs.Crossing.{crossingOn}
 use Rattle.queries.specs.declared.Crossing.{Crossing}
 use Rattle.queries.specs.declared.HitEdges.{HitEdges}
@@ -64,9 +65,9 @@ pub record Marched : Type 0 where
   pub line : Line2
   pub store : List Float
 
--- the entry tests
+-- the entry tests; a march is held to 23
 abbrev pub marchEntry : Marched → Answer (Unit {0})
-marchEntry m = lineEntry (m .section) (m .sectionTol) (m .tol) (m .line)
+marchEntry m = lineEntry (m .section) (m .sectionTol) (m .tol) (m .line) (finerGeneral (m .sectionTol) (m .tol))
 
 -- the start's crossing (8), and its circle (10, 12)
 abbrev pub startOf : Marched → Answer Inscribed

@@ -58,7 +58,7 @@ pub fn extract_circles(
 ) -> RunAnswer
     ensures { λ r. ⌜ listedCalled r (now (store .exit)) ≡ extractionOf (record { section = now (section .entry); sectionTol = «section_tol»; tol = tol; line = line; store = now (store .entry) }) limit ⌝ }
 {
-    match circles::line_entry(section, section_tol, tol, line) {
+    match crate::march::entered(section, section_tol, tol, line) {
         Entry::Passed => match halving::checked::inscribed_on(section, tol, line) {
             InscribedAnswer::Value(c) => {
                 let run = both_halves(section, tol, line, store, c, limit);

@@ -1,6 +1,7 @@
 // One march, `extract_half_circles`: refinements and advances by turns.
 use advance::Advanced;
 use curve2::Entry;
+use curve2::entering;
 use errors::Refusal;
 use inscribed::Inscribed;
 use inscribed::InscribedAnswer;
@@ -15,11 +16,12 @@ ghost use mathlib.Core.Path.{_≡_};
 ghost use mathlib.Core.List.{List, [], _∷_};
 ghost use Prim.Native.Nat.{_*_, _≤_};
 ghost use lib.ListN.{length};
-ghost use Rattle.curve2.specs.Entry.{HasPoints};
+ghost use Rattle.curve2.specs.Entry.{finerGeneral, HasPoints, listedEntry};
 ghost use Rattle.runs.specs.Run.{underLimit};
 ghost use Rattle.refine.specs.Machine.{refining};
 ghost use Rattle.refine.specs.Report.{reported, listedRun, listedCalled};
 ghost use Rattle.halving.specs.Halving.{fromCrossing};
+ghost use Rattle.circles.specs.Asked.{lineEntry};
 ghost use Rattle.camber.specs.March.{marchRun, afterStart, marchTold, listedMarch};
 ghost use Rattle.inscribed.specs.Store.{width};
 ghost use lib.Ieee.{Float};
@@ -53,6 +55,14 @@ pub fn called(answer: MarchAnswer) -> RunAnswer
         }
         MarchAnswer::Refused(r) => RunAnswer::Refused(r),
     }
+}
+
+// The entry tests of a march or an extraction, which are held to 23.
+pub(crate) fn entered(section: &[f64], section_tol: f64, tol: f64, line: Line2) -> Entry
+    ensures { λ r. ⌜ listedEntry r ≡ lineEntry (now (section .entry)) «section_tol» tol line (finerGeneral «section_tol» tol) ⌝ }
+{
+    let finer = entering::is_finer_general(section_tol, tol);
+    circles::line_entry(section, section_tol, tol, line, finer)
 }
 
 // The march on a checked section from its first circle on, into a store with room for `slots` circles; `units` have been taken before.
@@ -126,7 +136,7 @@ pub fn march(
 ) -> MarchAnswer
     ensures { λ r. ⌜ listedMarch r (now (store .exit)) ≡ marchTold (record { section = now (section .entry); sectionTol = «section_tol»; tol = tol; line = line; store = now (store .entry) }) limit ⌝ }
 {
-    match circles::line_entry(section, section_tol, tol, line) {
+    match entered(section, section_tol, tol, line) {
         Entry::Passed => {
             match queries::asked(queries::checked::crossing_line(section, line)) {
                 CrossingAsked::Value(x) => {

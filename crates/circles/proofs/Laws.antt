@@ -8,6 +8,6 @@ use Rattle.curve2.specs.declared.Entry.{Entry}
 use Rattle.curve2.proofs.Laws.{entry-passed}
 use Rattle.circles.specs.Asked.{circleEntry}
 
-pub entered-points : (ns : List Float) (sectionTol tol : Float) (bad : Bool) (r : Entry) → listedEntry r ≡ circleEntry ns sectionTol tol bad → r ≡ Entry.Passed → HasPoints ns
+pub entered-points : (ns : List Float) (sectionTol tol : Float) (bad finer : Bool) (r : Entry) → listedEntry r ≡ circleEntry ns sectionTol tol bad finer → r ≡ Entry.Passed → HasPoints ns
 unfolding circleEntry
-entered-points ns sectionTol tol bad r is e = entry-passed _ _ _ (sym (rw e at is)) .points
+entered-points ns sectionTol tol bad finer r is e = entry-passed _ _ _ (sym (rw e at is)) .points

@@ -15,29 +15,29 @@ use Rattle.circles.specs.Trial.{trial}
 use Rattle.circles.specs.declared.CircleOnLine.{CircleOnLine}
 use Rattle.circles.specs.declared.CircleOnLineAnswer.{CircleOnLineAnswer}
 
--- with whether a number of the other arguments is bad
-unfoldable pub circleEntry : List Float → Float → Float → Bool → Answer (Unit {0})
-circleEntry ns sectionTol tol bad = sectionEntry ns sectionTol (record { number = bad; tolerance = badGeneral tol; room = false })
+-- with whether a number of the other arguments is bad, and whether the general tolerance is finer than the section's (23): one circle or one trial isn't held to that
+unfoldable pub circleEntry : List Float → Float → Float → Bool → Bool → Answer (Unit {0})
+circleEntry ns sectionTol tol bad finer = sectionEntry ns sectionTol (record { number = bad; tolerance = badGeneral tol; finer = finer; room = false })
 
 -- of a line handed in
-abbrev pub lineEntry : List Float → Float → Float → Line2 → Answer (Unit {0})
-lineEntry ns sectionTol tol l = circleEntry ns sectionTol tol (not (finiteLine l))
+abbrev pub lineEntry : List Float → Float → Float → Line2 → Bool → Answer (Unit {0})
+lineEntry ns sectionTol tol l finer = circleEntry ns sectionTol tol (not (finiteLine l)) finer
 
 -- `inscribed_from_crossing`: the line is taken as a crossing, whose edges nobody has told
 unfoldable pub fromCrossingAsked : List Float → Float → Float → Line2 → Answer Inscribed
-fromCrossingAsked ns sectionTol tol l = lineEntry ns sectionTol tol l >>= λ passed. fromLine ns tol l
+fromCrossingAsked ns sectionTol tol l = lineEntry ns sectionTol tol l false >>= λ passed. fromLine ns tol l
 
 -- `try_inscribed`. 02 (a): "The circle worked out from a crossing asked for directly hands them on"
 unfoldable pub tryAsked : List Float → Float → Float → Line2 → Answer CircleOnLine
 tryAsked ns sectionTol tol l =
-    lineEntry ns sectionTol tol l >>= λ passed.
+    lineEntry ns sectionTol tol l false >>= λ passed.
     crossingOn ns l >>= λ x.
     fromCrossing ns tol x >>= λ c.
     result (record { circle = c; edges = x .edges })
 
 -- `inscribed_refined` of a, the earlier, and b
 unfoldable pub trialAsked : List Float → Float → Float → Inscribed → Inscribed → Answer (Option Inscribed)
-trialAsked ns sectionTol tol a b = circleEntry ns sectionTol tol (badCircle a || badCircle b) >>= λ passed. trial ns tol a b
+trialAsked ns sectionTol tol a b = circleEntry ns sectionTol tol (badCircle a || badCircle b) false >>= λ passed. trial ns tol a b
 
 -- what it lists: the circle with its edges, or the refusal
 abbrev pub listedCircleOnLine : CircleOnLineAnswer → Answer CircleOnLine

@@ -31,25 +31,26 @@ pub enum CircleOnLineAnswer {
     Refused(Refusal),
 }
 
-// The entry tests, with whether a number of the other arguments is bad.
-fn entered(section: &[f64], section_tol: f64, tol: f64, number: bool) -> Entry
-    ensures { λ r. ⌜ listedEntry r ≡ circleEntry (now (section .entry)) «section_tol» tol number ⌝ }
+// The entry tests, with whether a number of the other arguments is bad, and whether the general tolerance is finer than the section's: one circle or one trial isn't held to that.
+fn entered(section: &[f64], section_tol: f64, tol: f64, number: bool, finer: bool) -> Entry
+    ensures { λ r. ⌜ listedEntry r ≡ circleEntry (now (section .entry)) «section_tol» tol number finer ⌝ }
 {
     let tolerance = entering::is_bad_general(tol);
     let also = AlsoBad {
         number,
         tolerance,
+        finer,
         room: false,
     };
     entering::section_entry(section, section_tol, also)
 }
 
 // The entry tests of a line.
-pub fn line_entry(section: &[f64], section_tol: f64, tol: f64, line: Line2) -> Entry
-    ensures { λ r. ⌜ listedEntry r ≡ lineEntry (now (section .entry)) «section_tol» tol line ⌝ }
+pub fn line_entry(section: &[f64], section_tol: f64, tol: f64, line: Line2, finer: bool) -> Entry
+    ensures { λ r. ⌜ listedEntry r ≡ lineEntry (now (section .entry)) «section_tol» tol line finer ⌝ }
 {
     let finite = sections::is_finite_line(line);
-    entered(section, section_tol, tol, !finite)
+    entered(section, section_tol, tol, !finite, finer)
 }
 
 // Whether a number of either circle is bad.
@@ -71,7 +72,7 @@ pub fn inscribed_from_crossing(
 ) -> InscribedAnswer
     ensures { λ r. ⌜ listedInscribed r ≡ fromCrossingAsked (now (section .entry)) «section_tol» tol line ⌝ }
 {
-    match line_entry(section, section_tol, tol, line) {
+    match line_entry(section, section_tol, tol, line, false) {
         Entry::Passed => halving::checked::from_line(section, tol, line),
         Entry::Refused(r) => InscribedAnswer::Refused(r),
     }
@@ -81,7 +82,7 @@ pub fn inscribed_from_crossing(
 pub fn try_inscribed(section: &[f64], section_tol: f64, tol: f64, line: Line2) -> CircleOnLineAnswer
     ensures { λ r. ⌜ listedCircleOnLine r ≡ tryAsked (now (section .entry)) «section_tol» tol line ⌝ }
 {
-    match line_entry(section, section_tol, tol, line) {
+    match line_entry(section, section_tol, tol, line, false) {
         Entry::Passed => {
             match queries::asked(queries::checked::crossing_line(section, line)) {
                 CrossingAsked::Value(x) => {
@@ -111,7 +112,7 @@ pub fn inscribed_refined(
     ensures { λ r. ⌜ listedTried r ≡ trialAsked (now (section .entry)) «section_tol» tol a b ⌝ }
 {
     let number = is_bad_pair(a, b);
-    match entered(section, section_tol, tol, number) {
+    match entered(section, section_tol, tol, number, false) {
         Entry::Passed => checked::inscribed_refined(section, tol, a, b),
         Entry::Refused(r) => TriedAnswer::Refused(r),
     }

@@ -64,7 +64,7 @@ cleaned ns tol forced room = cleaningEntry ns tol room >>= λ passed. curveOf to
 -- 1, 2, 3, 4 ("`reversed`'s than its input") and 6
 unfoldable pub backwards : List Float → Float → ℕ → Answer (List Point2)
 backwards ns tol room =
-    sectionEntry ns tol (record { number = false; tolerance = false; room = ltb room (length ns) }) >>= λ passed.
+    sectionEntry ns tol (record { number = false; tolerance = false; finer = false; room = ltb room (length ns) }) >>= λ passed.
     result (reverse (pointsOf ns))
 
 -- ---- what is returned, and what the output holds then

@@ -37,6 +37,7 @@ pub fn reversed(points: &[f64], tol: f64, out: &mut [f64]) -> CurveAnswer
     let also = AlsoBad {
         number: false,
         tolerance: false,
+        finer: false,
         room: out.len() < n,
     };
     match entering::section_entry(points, tol, also) {

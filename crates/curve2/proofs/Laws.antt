@@ -128,9 +128,9 @@ module _ (ns : List Float) (tol : Float) (also : AlsoBad) (e : sectionEntry ns t
     points = has-points ns mostPoints (lit≤ tt) (none .0);
     numbers = or-left (badNumbers ns) _ (none .1 .0);
     tolerance = or-left (badTolerance tol) _ (none .1 .1 .0);
-    spaced = none .1 .1 .1 .1 .0;
+    spaced = none .1 .1 .1 .1 .1 .0;
   }
 
   -- and of the other arguments
   pub entry-room : also .room ≡ false
-  entry-room = none .1 .1 .1 .0
+  entry-room = none .1 .1 .1 .1 .0

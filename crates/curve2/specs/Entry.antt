@@ -1,5 +1,5 @@
--- The entry tests: "1 to 6 are tested on entry in number order". Each is a number and whether its test fails; the first that fails is the answer.
--- A call that hands in more than a section adds to the tests of 2, 3 and 4 what fails of its other arguments. Assumes nothing.
+-- The entry tests: "1 to 6 are tested on entry in number order", and 23 "straight after 3 and before 4". Each is a number and whether its test fails; the first that fails is the answer.
+-- A call that hands in more than a section adds to the tests of 2, 3 and 4 what fails of its other arguments, and a call that isn't held to 23 has false there. Assumes nothing.
 use mathlib.Core.Path.{_≡_}
 use mathlib.Core.Bool.{Bool, false, not, _&&_, _||_, cond}
 use mathlib.Core.List.{List, [], _∷_}
@@ -14,7 +14,7 @@ use Rattle.curve2.specs.Section.{pointsOf, plainDist, lengthsOf}
 use Rattle.curve2.specs.declared.AlsoBad.{AlsoBad}
 use Rattle.curve2.specs.declared.Entry.{Entry}
 use Rattle.errors.specs.declared.Refusal.{Refusal}
-use Rattle.errors.specs.declared.Refusal.the-variants.{BadNumber, NoRoom, NotSpaced, PointCount, Tolerance}
+use Rattle.errors.specs.declared.Refusal.the-variants.{BadNumber, FinerThanSection, NoRoom, NotSpaced, PointCount, Tolerance}
 
 abbrev pub tested : List (Refusal × Bool) → Answer (Unit {0})
 tested [] = result tt
@@ -57,6 +57,10 @@ mostTol = ofBits binary64 0x408f_4000_0000_0000
 abbrev pub badGeneral : Float → Bool
 badGeneral tol = not (le leastTol tol && le tol mostTol)
 
+-- 23: "A general tolerance smaller than the section tolerance"; "marches, refinements and edge fits are held to this"
+abbrev pub finerGeneral : Float → Float → Bool
+finerGeneral sectionTol tol = lt tol sectionTol
+
 -- 6: "neighbouring points no farther apart than the section tolerance,
 unfoldable pub crowded : Float → List Point2 → Bool
 crowded tol [] = false
@@ -79,6 +83,7 @@ sectionTests ns tol also =
     (PointCount, badCount mostPoints (length ns))
     ∷ (BadNumber, badNumbers ns || also .number)
     ∷ (Tolerance, badTolerance tol || also .tolerance)
+    ∷ (FinerThanSection, also .finer)
     ∷ (NoRoom, also .room)
     ∷ (NotSpaced, notSpaced ns tol)
     ∷ []

@@ -5,7 +5,7 @@ use crate::MOST_POINTS;
 use crate::checked;
 use errors::Refusal;
 ghost use mathlib.Core.Path.{_≡_};
-ghost use Rattle.curve2.specs.Entry.{badCount, badNumbers, badTolerance, badGeneral, notSpaced, inRange, sectionEntry, HasPoints, listedEntry};
+ghost use Rattle.curve2.specs.Entry.{badCount, badNumbers, badTolerance, badGeneral, finerGeneral, notSpaced, inRange, sectionEntry, HasPoints, listedEntry};
 
 // Test 1: a count of numbers that is odd, or of fewer than 2 points or more than `most`.
 pub fn is_bad_count(most: usize, count: usize) -> bool
@@ -66,6 +66,13 @@ pub fn is_bad_general(tol: f64) -> bool
     true
 }
 
+// Test 23: a general tolerance smaller than the section tolerance.
+pub fn is_finer_general(section_tol: f64, tol: f64) -> bool
+    ensures { λ r. ⌜ r ≡ finerGeneral «section_tol» tol ⌝ }
+{
+    tol < section_tol
+}
+
 // Test 6: neighbours within the tolerance of each other, or lengths that don't strictly rise.
 pub(crate) fn is_not_spaced(points: &[f64], tol: f64) -> bool
     requires { ⌜ HasPoints (now points) ⌝ }
@@ -88,12 +95,13 @@ pub(crate) fn is_not_spaced(points: &[f64], tol: f64) -> bool
     false
 }
 
-// The entry tests of a section, in number order, with what fails of the other arguments.
+// The entry tests of a section, in number order and 23 straight after 3, with what fails of the other arguments.
 pub fn section_entry(points: &[f64], tol: f64, also: AlsoBad) -> Entry
     ensures { λ r. ⌜ listedEntry r ≡ sectionEntry (now (points .entry)) tol also ⌝ }
 {
     let number = also.number;
     let tolerance = also.tolerance;
+    let finer = also.finer;
     let room = also.room;
     if is_bad_count(MOST_POINTS, points.len()) {
         return Entry::Refused(Refusal::PointCount);
@@ -109,6 +117,9 @@ pub fn section_entry(points: &[f64], tol: f64, also: AlsoBad) -> Entry
     }
     if tolerance {
         return Entry::Refused(Refusal::Tolerance);
+    }
+    if finer {
+        return Entry::Refused(Refusal::FinerThanSection);
     }
     if room {
         return Entry::Refused(Refusal::NoRoom);

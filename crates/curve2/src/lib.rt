@@ -14,10 +14,11 @@ ghost use Rattle.curve2.specs.Stations.{normalOf, surfaceOf};
 // A section has no more points than this.
 pub const MOST_POINTS: usize = 4096;
 
-// What fails of the arguments beside the section: a number (2), a tolerance (3), a count or an output (4).
+// What fails of the arguments beside the section: a number (2), a tolerance (3), a general tolerance finer than the section's (23; false in a call that isn't held to it), a count or an output (4).
 pub struct AlsoBad {
     pub number: bool,
     pub tolerance: bool,
+    pub finer: bool,
     pub room: bool,
 }
 

@@ -25,7 +25,7 @@ use Rattle.gap.specs.Probe.{probed}
 use Rattle.gap.specs.declared.Gap.{Gap}
 use Rattle.gap.specs.declared.round.Moved.{Moved}
 use Rattle.gap.specs.Rounds.{Fit, fit, Progress, Round, stops, goes, movedPoint, afterMove, afterRefined, afterOut, afterProbe, round, onward, mostRounds, rounds, firstProgress}
-use Rattle.edges.specs.Edges.{endLast, fitStart, fitFrom, fitReported, fitted, EdgeInput, edgeEntry, fitAfter, fitOf}
+use Rattle.edges.specs.Edges.{endLast, fitStart, fitFrom, fitReported, fitted, EdgeInput, fitAfter, fitOf}
 use Rattle.edges.specs.declared.fitting.Start.{Start}
 
 module _ (limit more : ℕ) (h : limit ≤ more) (ns : List Float) (tol : Float) (slots : ℕ) where
@@ -164,4 +164,4 @@ fit-ends i full (result passed) =
     from-ends (i .section) (i .tol) (slots (i .store)) full cs (fitStart (i .section) (i .sectionTol) cs)
 
 pub fit-law : (i : EdgeInput) (limit : ℕ) → EndingLaw (fitOf i) limit
-fit-law i limit = record { ends = fit-ends i (underLimit limit) (edgeEntry i); larger = λ more h. fit-larger limit more h i (edgeEntry i) }
+fit-law i limit = record { ends = fit-ends i (underLimit limit) _; larger = λ more h. fit-larger limit more h i _ }

@@ -9,7 +9,7 @@ use Rattle.points.specs.Numbers.{f0}
 use Rattle.points.specs.declared.Point2.{Point2}
 use Rattle.line2.specs.Lines.{lineProjection}
 use Rattle.line2.specs.declared.Line2.{Line2}
-use Rattle.curve2.specs.Entry.{badGeneral, sectionEntry}
+use Rattle.curve2.specs.Entry.{badGeneral, finerGeneral, sectionEntry}
 use Rattle.curve2.specs.Section.{pointAt, isClosed}
 use Rattle.runs.specs.Run.{ended, underLimit}
 use Rattle.inscribed.specs.Store.{circlesOf, stored, slots, badStore, badStoreCount}
@@ -32,10 +32,11 @@ pub record EdgeInput : Type 0 where
   pub count : ℕ
   pub atFront : Bool
 
-unfoldable pub edgeEntry : EdgeInput → Answer (Unit {0})
-edgeEntry i =
+-- with whether the general tolerance is finer than the section's (23): `is_open_at_end` isn't held to that
+unfoldable pub edgeEntry : EdgeInput → Bool → Answer (Unit {0})
+edgeEntry i finer =
     sectionEntry (i .section) (i .sectionTol)
-    (record { number = badStore (i .store) (i .count); tolerance = badGeneral (i .tol); room = badStoreCount (i .store) (i .count) })
+    (record { number = badStore (i .store) (i .count); tolerance = badGeneral (i .tol); finer = finer; room = badStoreCount (i .store) (i .count) })
 
 -- "at the front the order is turned first": the end that is meant comes last
 abbrev pub endLast : Bool → List Inscribed → List Inscribed
@@ -58,7 +59,7 @@ endsBeyond ns cs = lastPair cs >>= λ end. clipLine end >>= beyondLine ns
 unfoldable pub openAtEnd : EdgeInput → Answer Bool
 unfolding endsBeyond
 openAtEnd i =
-    edgeEntry i >>= λ passed.
+    edgeEntry i false >>= λ passed.
     cond (isClosed (i .section) (i .sectionTol)) (result false) (endsBeyond (i .section) (endLast (i .atFront) (circlesOf (i .store) (i .count))))
 
 -- ---- `fit_open_edge`
@@ -96,7 +97,7 @@ fitAfter i full (refusal r) = refusedOnEntry r (i .store)
 fitAfter i full (result passed) = ran (fitted (i .section) (i .sectionTol) (i .tol) (slots (i .store)) full (i .atFront) (i .store) (i .count))
 
 abbrev pub fitOf : EdgeInput → ℕ → Called Point2
-fitOf i limit = fitAfter i (underLimit limit) (edgeEntry i)
+fitOf i limit = fitAfter i (underLimit limit) (edgeEntry i (finerGeneral (i .sectionTol) (i .tol)))
 
 -- ---- what the function returns
 

@@ -48,7 +48,7 @@ pub fn number(answer: FitAnswer) -> u32
     }
 }
 
-// The entry tests of an edge.
+// The entry tests of an edge, with whether the general tolerance is finer than the section's: `is_open_at_end` isn't held to that.
 fn entered(
     section: &[f64],
     section_tol: f64,
@@ -56,8 +56,9 @@ fn entered(
     store: &[f64],
     count: usize,
     at_front: bool,
+    finer: bool,
 ) -> Entry
-    ensures { λ r. ⌜ listedEntry r ≡ edgeEntry (record { section = now (section .entry); sectionTol = «section_tol»; tol = tol; store = now (store .entry); count = count; atFront = «at_front» }) ⌝ }
+    ensures { λ r. ⌜ listedEntry r ≡ edgeEntry (record { section = now (section .entry); sectionTol = «section_tol»; tol = tol; store = now (store .entry); count = count; atFront = «at_front» }) finer ⌝ }
 {
     let number = inscribed::store::has_bad_circle(store, count);
     let tolerance = entering::is_bad_general(tol);
@@ -65,6 +66,7 @@ fn entered(
     let also = AlsoBad {
         number,
         tolerance,
+        finer,
         room,
     };
     entering::section_entry(section, section_tol, also)
@@ -82,7 +84,8 @@ pub fn fit_open_edge(
 ) -> FitAnswer
     ensures { λ r. ⌜ listedFitCall r (now (store .exit)) ≡ fitOf (record { section = now (section .entry); sectionTol = «section_tol»; tol = tol; store = now (store .entry); count = count; atFront = «at_front» }) limit ⌝ }
 {
-    match entered(section, section_tol, tol, store, count, at_front) {
+    let finer = entering::is_finer_general(section_tol, tol);
+    match entered(section, section_tol, tol, store, count, at_front, finer) {
         Entry::Passed => {
             let slots = inscribed::store::slots_in(store.len());
             let fit = fitting::fit(
@@ -112,7 +115,7 @@ pub fn is_open_at_end(
 ) -> BoolAnswer
     ensures { λ r. ⌜ listedBool r ≡ openAtEnd (record { section = now (section .entry); sectionTol = «section_tol»; tol = tol; store = now (store .entry); count = count; atFront = «at_front» }) ⌝ }
 {
-    match entered(section, section_tol, tol, store, count, at_front) {
+    match entered(section, section_tol, tol, store, count, at_front, false) {
         Entry::Passed => {
             if curve2::checked::is_closed(section, section_tol) {
                 return BoolAnswer::Value(false);

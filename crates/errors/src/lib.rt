@@ -49,6 +49,8 @@ pub enum Refusal {
     EmptyStretch,
     // 22: a split of the wrong kind of section.
     WrongKind,
+    // 23: a general tolerance smaller than the section tolerance.
+    FinerThanSection,
 }
 
 // A number, or why there is none.
@@ -83,6 +85,7 @@ pub fn number(refusal: Refusal) -> u32
         Refusal::GapMissed => 20,
         Refusal::EmptyStretch => 21,
         Refusal::WrongKind => 22,
+        Refusal::FinerThanSection => 23,
     }
 }
 

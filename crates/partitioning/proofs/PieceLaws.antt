@@ -35,14 +35,14 @@ use Rattle.partitioning.proofs.StretchLaws.{Standing, standing, between
 
 module _ (ns : List Float) (tol : Float) (good short : Bool) (passed : stretchEntry ns tol good short ≡ result tt) where
   abbrev also : AlsoBad
-  also = record { number = not good; tolerance = false; room = short }
+  also = record { number = not good; tolerance = false; finer = false; room = short }
 
   both : (badCount mostCleaned (length ns) ≡ false) × (sectionEntry ns tol also ≡ result tt)
   unfolding stretchEntry
   both = go (badCount mostCleaned (length ns)) passed
     where
-      go : (b : Bool) → cond b (refusal PointCount) (sectionEntry ns tol (record { number = not good; tolerance = false; room = short })) ≡ result tt
-          → (b ≡ false) × (sectionEntry ns tol (record { number = not good; tolerance = false; room = short }) ≡ result tt)
+      go : (b : Bool) → cond b (refusal PointCount) (sectionEntry ns tol (record { number = not good; tolerance = false; finer = false; room = short })) ≡ result tt
+          → (b ≡ false) × (sectionEntry ns tol (record { number = not good; tolerance = false; finer = false; room = short }) ≡ result tt)
       go true e = let z : _≡_ {A = ℕ} 0 1 = cc in absurd (omega arith)
       go false e = (refl, e)
 

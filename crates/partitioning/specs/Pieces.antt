@@ -52,7 +52,7 @@ isShort ns room = ltb room (length ns + 2)
 unfoldable pub stretchEntry : List Float → Float → Bool → Bool → Answer (Unit {0})
 stretchEntry ns tol good short =
     cond (badCount mostCleaned (length ns)) (refusal PointCount)
-    (sectionEntry ns tol (record { number = not good; tolerance = false; room = short }))
+    (sectionEntry ns tol (record { number = not good; tolerance = false; finer = false; room = short }))
 
 -- ---- the entry points; `room` is the length of an output
 

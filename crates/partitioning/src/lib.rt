@@ -74,6 +74,7 @@ fn entered(section: &[f64], tol: f64, good: bool, short: bool) -> Entry
     let also = AlsoBad {
         number: !good,
         tolerance: false,
+        finer: false,
         room: short,
     };
     entering::section_entry(section, tol, also)

@@ -5,7 +5,7 @@ use Prim.Native.Nat.{ℕ}
 use lib.ListN.{drop}
 use lib.Ieee.{Float}
 use Rattle.errors.specs.Answer.{Answer, result, refusal}
-use Rattle.curve2.specs.Entry.{badGeneral, sectionEntry}
+use Rattle.curve2.specs.Entry.{badGeneral, finerGeneral, sectionEntry}
 use Rattle.runs.specs.Run.{Final, underLimit, never}
 use Rattle.inscribed.specs.Store.{slots, circlesOf, badCircle, badStore, badStoreCount}
 use Rattle.inscribed.specs.declared.Inscribed.{Inscribed}
@@ -24,7 +24,7 @@ pub record Offer : Type 0 where
 unfoldable pub refineEntry : Offer → Answer (Unit {0})
 refineEntry o =
     sectionEntry (o .section) (o .sectionTol)
-    (record { number = badStore (o .store) (o .count) || badCircle (o .circle); tolerance = badGeneral (o .tol); room = badStoreCount (o .store) (o .count) })
+    (record { number = badStore (o .store) (o .count) || badCircle (o .circle); tolerance = badGeneral (o .tol); finer = finerGeneral (o .sectionTol) (o .tol); room = badStoreCount (o .store) (o .count) })
 
 -- "The offered circle waits alone."
 abbrev pub offeredRun : Offer → (ℕ → Bool) → Final State End

@@ -114,10 +114,12 @@ fn entered(
 {
     let number = has_bad_number(store, count, circle);
     let tolerance = entering::is_bad_general(tol);
+    let finer = entering::is_finer_general(section_tol, tol);
     let room = inscribed::store::is_bad_store_count(store, count);
     let also = AlsoBad {
         number,
         tolerance,
+        finer,
         room,
     };
     entering::section_entry(section, section_tol, also)

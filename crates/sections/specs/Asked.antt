@@ -21,13 +21,13 @@ use Rattle.sections.specs.declared.BoolAnswer.{BoolAnswer}
 
 -- nothing beside the section; a number that isn't finite (2); a place that isn't there (4)
 abbrev pub alone : AlsoBad
-alone = record { number = false; tolerance = false; room = false }
+alone = record { number = false; tolerance = false; finer = false; room = false }
 
 abbrev pub withNumber : Bool → AlsoBad
-withNumber good = record { number = not good; tolerance = false; room = false }
+withNumber good = record { number = not good; tolerance = false; finer = false; room = false }
 
 abbrev pub withPlace : Bool → Bool → AlsoBad
-withPlace good there = record { number = not good; tolerance = false; room = not there }
+withPlace good there = record { number = not good; tolerance = false; finer = false; room = not there }
 
 abbrev pub finitePoint : Point2 → Bool
 finitePoint p = finite (p .x) && finite (p .y)

@@ -31,11 +31,12 @@ pub enum BoolAnswer {
 
 // The entry tests, with a bad number (2) and a place that isn't there (4) among the other arguments.
 fn entered(section: &[f64], tol: f64, number: bool, room: bool) -> Entry
-    ensures { λ r. ⌜ listedEntry r ≡ sectionEntry (now (section .entry)) tol (record { number = number; tolerance = false; room = room }) ⌝ }
+    ensures { λ r. ⌜ listedEntry r ≡ sectionEntry (now (section .entry)) tol (record { number = number; tolerance = false; finer = false; room = room }) ⌝ }
 {
     let also = AlsoBad {
         number,
         tolerance: false,
+        finer: false,
         room,
     };
     entering::section_entry(section, tol, also)

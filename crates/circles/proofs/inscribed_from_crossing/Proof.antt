@@ -12,7 +12,7 @@ enum-told : tie.Need-enum-told
 enum-told c = search needs
 
 from-line-requires : tie.Need-from-line-requires
-from-line-requires c κs = entered-points _ _ _ _ _ (c .before .before .line-entry .ensures) (c .enum-told .given .1)
+from-line-requires c κs = entered-points _ _ _ _ _ _ (c .before .before .line-entry .ensures) (c .enum-told .given .1)
 
 enum-known-r : tie.Need-enum-known-r
 enum-known-r c = search needs

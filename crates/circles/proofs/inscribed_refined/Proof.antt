@@ -15,7 +15,7 @@ enum-told : tie.Need-enum-told
 enum-told c = search needs
 
 inscribed-refined-requires : tie.Need-inscribed-refined-requires
-inscribed-refined-requires c κs = entered-points _ _ _ _ _ (c .before .before .entered .ensures) (c .enum-told .given .1)
+inscribed-refined-requires c κs = entered-points _ _ _ _ _ _ (c .before .before .entered .ensures) (c .enum-told .given .1)
 
 enum-known-r : tie.Need-enum-known-r
 enum-known-r c = search needs

@@ -12,7 +12,7 @@ enum-told : tie.Need-enum-told
 enum-told c = search needs
 
 crossing-line-requires : tie.Need-crossing-line-requires
-crossing-line-requires c κs = entered-points _ _ _ _ _ (c .before .before .line-entry .ensures) (c .enum-told .given .1)
+crossing-line-requires c κs = entered-points _ _ _ _ _ _ (c .before .before .line-entry .ensures) (c .enum-told .given .1)
 
 asked-requires : tie.Need-asked-requires
 asked-requires c κs = search needs
@@ -21,7 +21,7 @@ enum-known-x : tie.Need-enum-known-x
 enum-known-x c = search needs
 
 from-crossing-requires : tie.Need-from-crossing-requires
-from-crossing-requires c κs = entered-points _ _ _ _ _ (c .before .before .before .before .before .before .before .before .line-entry .ensures) (c .before .before .before .before .before .before .enum-told .given .1)
+from-crossing-requires c κs = entered-points _ _ _ _ _ _ (c .before .before .before .before .before .before .before .before .line-entry .ensures) (c .before .before .before .before .before .before .enum-told .given .1)
 
 enum-known-circle : tie.Need-enum-known-circle
 enum-known-circle c = search needs

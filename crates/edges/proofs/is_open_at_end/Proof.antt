@@ -15,14 +15,14 @@ enum-told : tie.Need-enum-told
 enum-told c = search needs
 
 is-closed-requires : tie.Need-is-closed-requires
-is-closed-requires c κs = entry-points _ (sym (rw (c .enum-told .given .1) at (c .before .before .entered .ensures)))
+is-closed-requires c κs = entry-points _ _ (sym (rw (c .enum-told .given .1) at (c .before .before .entered .ensures)))
 
 returns : tie.Need-returns
 unfolding openAtEnd
 returns c = rw (← (rw (c .before .before .enum-told .given .1) at (c .before .before .before .before .entered .ensures)), told (c .before .is-closed .ensures) (c .if1 .taken))
 
 is-beyond-end-requires : tie.Need-is-beyond-end-requires
-is-beyond-end-requires c κs = let e = sym (rw (c .before .before .enum-told .given .1) at (c .before .before .before .before .entered .ensures)) in (entry-points _ e, omega (arith, entry-count _ e))
+is-beyond-end-requires c κs = let e = sym (rw (c .before .before .enum-told .given .1) at (c .before .before .before .before .entered .ensures)) in (entry-points _ _ e, omega (arith, entry-count _ _ e))
 
 enum-known-r : tie.Need-enum-known-r
 enum-known-r c = search needs

@@ -10,6 +10,9 @@ has-bad-number-requires c κs = search needs
 is-bad-general-requires : tie.Need-is-bad-general-requires
 is-bad-general-requires c κs = search needs
 
+is-finer-general-requires : tie.Need-is-finer-general-requires
+is-finer-general-requires c κs = search needs
+
 is-bad-store-count-requires : tie.Need-is-bad-store-count-requires
 is-bad-store-count-requires c κs = search needs
 
@@ -18,7 +21,7 @@ section-entry-requires c κs = search needs
 
 returns : tie.Need-returns
 unfolding refineEntry
-returns c = rw (c .before .before .before .has-bad-number .ensures, c .before .before .is-bad-general .ensures, c .before .is-bad-store-count .ensures) at (c .section-entry .ensures)
+returns c = rw (c .before .before .before .before .has-bad-number .ensures, c .before .before .before .is-bad-general .ensures, c .before .before .is-finer-general .ensures, c .before .is-bad-store-count .ensures) at (c .section-entry .ensures)
 
 pub entered-spec : {M : Type 1} → statement M
 entered-spec =
@@ -26,6 +29,7 @@ entered-spec =
     (tie.spec
     has-bad-number-requires
     is-bad-general-requires
+    is-finer-general-requires
     is-bad-store-count-requires
     section-entry-requires
     returns)

@@ -40,16 +40,20 @@ returns-6 : tie.Need-returns-6
 unfolding sectionEntry
 returns-6 c = rw (told (c .before .before .before .before .before .before .before .before .is-bad-count .ensures) (c .before .before .before .before .before .before .before .if1 .left), told (c .before .before .before .before .before .before .has-bad-number .ensures) (c .before .before .before .before .before .if2 .left), c .before .before .before .before .if3 .left, told (c .before .before .before .is-bad-tolerance .ensures) (c .before .before .if4 .left), c .before .if5 .left, c .if6 .taken)
 
-is-not-spaced-requires : tie.Need-is-not-spaced-requires
-is-not-spaced-requires c κs = let e = told (c .before .before .before .before .before .before .before .before .is-bad-count .ensures) (c .before .before .before .before .before .before .before .if1 .left) in has-points _ mostPoints (omega arith) e
-
 returns-7 : tie.Need-returns-7
 unfolding sectionEntry
-returns-7 c = rw (told (c .before .before .before .before .before .before .before .before .before .before .is-bad-count .ensures) (c .before .before .before .before .before .before .before .before .before .if1 .left), told (c .before .before .before .before .before .before .before .before .has-bad-number .ensures) (c .before .before .before .before .before .before .before .if2 .left), c .before .before .before .before .before .before .if3 .left, told (c .before .before .before .before .before .is-bad-tolerance .ensures) (c .before .before .before .before .if4 .left), c .before .before .before .if5 .left, c .before .before .if6 .left, told (c .before .is-not-spaced .ensures) (c .if7 .taken))
+returns-7 c = rw (told (c .before .before .before .before .before .before .before .before .before .is-bad-count .ensures) (c .before .before .before .before .before .before .before .before .if1 .left), told (c .before .before .before .before .before .before .before .has-bad-number .ensures) (c .before .before .before .before .before .before .if2 .left), c .before .before .before .before .before .if3 .left, told (c .before .before .before .before .is-bad-tolerance .ensures) (c .before .before .before .if4 .left), c .before .before .if5 .left, c .before .if6 .left, c .if7 .taken)
+
+is-not-spaced-requires : tie.Need-is-not-spaced-requires
+is-not-spaced-requires c κs = let e = told (c .before .before .before .before .before .before .before .before .before .is-bad-count .ensures) (c .before .before .before .before .before .before .before .before .if1 .left) in has-points _ mostPoints (omega arith) e
 
 returns-8 : tie.Need-returns-8
 unfolding sectionEntry
-returns-8 c = rw (told (c .before .before .before .before .before .before .before .before .before .before .is-bad-count .ensures) (c .before .before .before .before .before .before .before .before .before .if1 .left), told (c .before .before .before .before .before .before .before .before .has-bad-number .ensures) (c .before .before .before .before .before .before .before .if2 .left), c .before .before .before .before .before .before .if3 .left, told (c .before .before .before .before .before .is-bad-tolerance .ensures) (c .before .before .before .before .if4 .left), c .before .before .before .if5 .left, c .before .before .if6 .left, told (c .before .is-not-spaced .ensures) (c .if7 .left))
+returns-8 c = rw (told (c .before .before .before .before .before .before .before .before .before .before .before .is-bad-count .ensures) (c .before .before .before .before .before .before .before .before .before .before .if1 .left), told (c .before .before .before .before .before .before .before .before .before .has-bad-number .ensures) (c .before .before .before .before .before .before .before .before .if2 .left), c .before .before .before .before .before .before .before .if3 .left, told (c .before .before .before .before .before .before .is-bad-tolerance .ensures) (c .before .before .before .before .before .if4 .left), c .before .before .before .before .if5 .left, c .before .before .before .if6 .left, c .before .before .if7 .left, told (c .before .is-not-spaced .ensures) (c .if8 .taken))
+
+returns-9 : tie.Need-returns-9
+unfolding sectionEntry
+returns-9 c = rw (told (c .before .before .before .before .before .before .before .before .before .before .before .is-bad-count .ensures) (c .before .before .before .before .before .before .before .before .before .before .if1 .left), told (c .before .before .before .before .before .before .before .before .before .has-bad-number .ensures) (c .before .before .before .before .before .before .before .before .if2 .left), c .before .before .before .before .before .before .before .if3 .left, told (c .before .before .before .before .before .before .is-bad-tolerance .ensures) (c .before .before .before .before .before .if4 .left), c .before .before .before .before .if5 .left, c .before .before .before .if6 .left, c .before .before .if7 .left, told (c .before .is-not-spaced .ensures) (c .if8 .left))
 
 pub section-entry-spec : {M : Type 1} → statement M
 section-entry-spec =
@@ -64,6 +68,7 @@ section-entry-spec =
     returns-4
     returns-5
     returns-6
-    is-not-spaced-requires
     returns-7
-    returns-8)
+    is-not-spaced-requires
+    returns-8
+    returns-9)
