@@ -84,7 +84,7 @@ pub fn circle_at(n: &[f64]) -> Inscribed {
     Inscribed::new(Circle2::from_point(Point2::new(n[0], n[1]), n[2]), Point2::new(n[3], n[4]), Point2::new(n[5], n[6]))
 }
 
-pub fn circle_numbers(c: &Inscribed) -> [f64; 7] {
+pub fn circle_numbers(c: &Inscribed) -> [f64; crate::WIDTH] {
     let ([x, y], [p0x, p0y], [p1x, p1y]) = (c.c.center.coords.0, c.p0.coords.0, c.p1.coords.0);
     [x, y, c.c.radius, p0x, p0y, p1x, p1y]
 }

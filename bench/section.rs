@@ -20,6 +20,8 @@ use std::time::Instant;
 const T: f64 = 0.000001;
 const G: f64 = 0.01;
 const SLOTS: usize = 1024;
+// How many numbers a circle has.
+const WIDTH: usize = 7;
 // A row is run this often at least, and for this long at least.
 const ROUNDS: usize = 25;
 const SECONDS: f64 = 0.6;
@@ -279,13 +281,13 @@ fn shape_of(open: bool) -> &'static str {
 // ---- runs
 
 // A store with circles in its first slots, and NaN behind them.
-fn store_of(circles: impl Iterator<Item = [f64; 7]>) -> Vec<f64> {
+fn store_of(circles: impl Iterator<Item = [f64; WIDTH]>) -> Vec<f64> {
     let mut store: Vec<f64> = circles.flatten().collect();
-    store.resize(7 * SLOTS, f64::NAN);
+    store.resize(WIDTH * SLOTS, f64::NAN);
     store
 }
 
-fn plain_numbers(c: &Circle) -> [f64; 7] {
+fn plain_numbers(c: &Circle) -> [f64; WIDTH] {
     [c.x, c.y, c.r, c.p0.0, c.p0.1, c.p1.0, c.p1.1]
 }
 
@@ -339,8 +341,8 @@ fn run(edges: usize, open: bool, whole: bool, once: bool) -> Left {
 fn edge(edges: usize, extracted: &Left, once: bool) {
     let section = &blade(edges, true)[..];
     let store = &extracted.numbers[..];
-    let count = store.iter().filter(|x| !x.is_nan()).count() / 7;
-    let circles = move || store.chunks_exact(7).take(count);
+    let count = store.iter().filter(|x| !x.is_nan()).count() / WIDTH;
+    let circles = move || store.chunks_exact(WIDTH).take(count);
     #[cfg(published)]
     let curve = &published::curve(section, T);
     let columns: Vec<Column> = vec![
@@ -363,7 +365,7 @@ fn edge(edges: usize, extracted: &Left, once: bool) {
         Box::new(move || {
             let mut list: Vec<_> = circles().map(plain_circle).collect();
             let (time, (point, units)) = timed(|| {
-                assert!(plain::enters_run(section, T, G, &store[..7 * count]));
+                assert!(plain::enters_run(section, T, G, &store[..WIDTH * count]));
                 plain::open_edge(section, G, &mut list, true, SLOTS, u32::MAX)
             });
             let mut numbers = store_of(list.iter().map(plain_numbers));

@@ -2,7 +2,7 @@
 // lines that hit and miss; circles found on the sections and made up.
 use crate::Tally;
 use crate::leaves::gap;
-use crate::port::{Call, REST};
+use crate::port::{Call, REST, SLOTS, WIDTH};
 
 pub struct Generator(u64);
 
@@ -322,7 +322,7 @@ fn any_point(g: &mut Generator, s: &Shape, section: &[f64]) -> (f64, f64) {
 }
 
 // A circle that was not found on the section.
-fn any_circle(g: &mut Generator, s: &Shape) -> [f64; 7] {
+fn any_circle(g: &mut Generator, s: &Shape) -> [f64; WIDTH] {
     let (x, y) = s.place(g.from(-0.9, 0.9) * s.long, g.from(-0.3, 0.3) * s.wide);
     let r = if g.one_in(4) { g.below(3) as f64 } else { s.wide * g.from(0.1, 1.2) };
     let a = if g.one_in(2) { 0.0 } else { g.from(-0.6, 0.6) };
@@ -419,7 +419,7 @@ fn circles(g: &mut Generator, s: &Shape, tol: f64, section: &[f64], tally: &mut 
         let l = if g.one_in(2) { across(g, s) } else { any_line(g, s, section) };
         let a = tally.compare(Call::TryInscribed, section, &join(t, &l), &[]);
         if a.told[0] == 0 {
-            found.push(a.out[..7].to_vec());
+            found.push(a.out[..WIDTH].to_vec());
         }
         found.push(any_circle(g, s).to_vec());
     }
@@ -431,17 +431,17 @@ fn circles(g: &mut Generator, s: &Shape, tol: f64, section: &[f64], tally: &mut 
     for _ in 0..3 {
         let t = [tol, general_tolerance(g, s).max(s.wide * 1e-3).clamp(1e-6, 1000.0)];
         let count = g.below(4);
-        let mut store = vec![REST; 7 * 300 + g.below(7)];
+        let mut store = vec![REST; WIDTH * 300 + g.below(WIDTH)];
         for k in 0..count {
             let c = &found[g.below(found.len())];
-            store[7 * k..7 * k + 7].copy_from_slice(c);
+            store[WIDTH * k..][..WIDTH].copy_from_slice(c);
         }
         let c = &found[g.below(found.len())];
         tally.compare(Call::RefineAndPush(count), section, &join(t, c), &store);
     }
-    let mut list = vec![REST; 7 * found.len() + 3];
+    let mut list = vec![REST; WIDTH * found.len() + 3];
     for (k, c) in found.iter().enumerate() {
-        list[7 * k..7 * k + 7].copy_from_slice(c);
+        list[WIDTH * k..][..WIDTH].copy_from_slice(c);
     }
     let count = if g.one_in(3) { g.below(4) } else { g.below(found.len() + 1) };
     lists(g, s, &list, count, tally);
@@ -458,7 +458,7 @@ fn made_up_fits(g: &mut Generator, s: &Shape, tol: f64, section: &[f64], tally: 
     for _ in 0..4 {
         let t = [tol, general_tolerance(g, s)];
         let count = 1 + g.below(4);
-        let mut store = vec![REST; 7 * 300];
+        let mut store = vec![REST; WIDTH * 300];
         let (mut start, mut step) = (g.from(-0.9, 0.9) * s.long, g.sign() * s.long * g.from(0.05, 0.3));
         let off = match g.below(4) {
             0 | 1 => 0.0,
@@ -479,7 +479,7 @@ fn made_up_fits(g: &mut Generator, s: &Shape, tol: f64, section: &[f64], tally: 
         for k in 0..count {
             let (x, y) = s.place(start + step * k as f64, off);
             let (cx, cy) = if square { (-gy, gx) } else { ((tilt * s.ux - s.uy) * s.wide, (tilt * s.uy + s.ux) * s.wide) };
-            store[7 * k..7 * k + 7].copy_from_slice(&[x, y, s.wide, x - cx, y - cy, x + cx, y + cy]);
+            store[WIDTH * k..][..WIDTH].copy_from_slice(&[x, y, s.wide, x - cx, y - cy, x + cx, y + cy]);
         }
         for front in [false, true] {
             tally.compare(Call::IsOpenAtEnd(count, front), section, &t, &store);
@@ -535,7 +535,7 @@ fn runs(g: &mut Generator, s: &Shape, tol: f64, section: &[f64], tally: &mut Tal
                 }
             }
         }
-        let store = vec![REST; 7 * 1024 + g.below(7)];
+        let store = vec![REST; WIDTH * SLOTS + g.below(WIDTH)];
         tally.compare(Call::March, section, &join(t, &l), &store);
         let whole = tally.compare(Call::Extract, section, &join(t, &l), &store);
         let count = whole.told[1] as usize;
@@ -552,7 +552,7 @@ fn runs(g: &mut Generator, s: &Shape, tol: f64, section: &[f64], tally: &mut Tal
             let less = (1 + g.below(count)).max(count.min(2));
             let from = if front { count - less } else { 0 };
             let mut store = vec![REST; whole.store.len()];
-            store[..7 * less].copy_from_slice(&whole.store[7 * from..7 * (from + less)]);
+            store[..WIDTH * less].copy_from_slice(&whole.store[WIDTH * from..][..WIDTH * less]);
             tally.compare(Call::FitOpenEdge(less, front), section, &t, &store);
         }
     }

@@ -9,7 +9,7 @@ mod sample;
 
 use AngleDir::Ccw;
 use leaves::*;
-use port::{Call, REST};
+use port::{Call, REST, WIDTH};
 use std::collections::BTreeMap;
 use std::error::Error;
 use std::fmt::{Display, Formatter};
@@ -101,7 +101,7 @@ fn circle_numbers(c: &Inscribed) -> Vec<f64> {
 }
 
 fn circles_of(store: &[f64], count: usize) -> Vec<Inscribed> {
-    store.chunks_exact(7).take(count).map(circle_at).collect()
+    store.chunks_exact(WIDTH).take(count).map(circle_at).collect()
 }
 
 fn curve_answer(c: Curve2) -> Wanted {
@@ -233,7 +233,7 @@ fn wanted(call: Call, section: &[f64], args: &[f64], store: &[f64]) -> Wanted {
         Call::CrossingLine => crossed(input.crossing_line(&line_at(&args[2..])).map_or(Wanted::none(8), |l| Wanted::value(vec![], line_numbers(l)))),
         Call::FromCrossing => circle_answer(Some(input.inscribed_from_crossing(&line_at(&args[2..]))), 0),
         Call::TryInscribed => crossed(circle_answer(input.try_inscribed(&line_at(&args[2..])), 8)),
-        Call::Refined => circle_answer(input.inscribed_refined(&circle_at(&args[2..]), &circle_at(&args[9..])), 99),
+        Call::Refined => circle_answer(input.inscribed_refined(&circle_at(&args[2..]), &circle_at(&args[2 + WIDTH..])), 99),
         Call::RefineAndPush(count) => {
             let mut list = InscribedVec::new(circles_of(store, count));
             list.refine_and_push(circle_at(&args[2..]), &input);
@@ -347,7 +347,7 @@ fn difference(call: Call, got: &port::Answer, want: &Wanted, store: &[f64]) -> O
     let mut after = store.to_vec();
     if let Some(circles) = &want.circles {
         for (i, c) in circles.iter().enumerate() {
-            after[7 * i..7 * i + 7].copy_from_slice(&circle_numbers(c));
+            after[WIDTH * i..][..WIDTH].copy_from_slice(&circle_numbers(c));
         }
     }
     if same(&got.store, &after) { None } else { Some("store differs".into()) }

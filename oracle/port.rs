@@ -1,8 +1,9 @@
 // The proved functions, by the C interface (include/rummyteak.h). Each call gives the words told and the numbers put out.
 use crate::interface::*;
 
-// How many numbers a circle has.
-const WIDTH: usize = 7;
+// How many numbers a circle has, and how many circles a store holds.
+pub const WIDTH: usize = 7;
+pub const SLOTS: usize = 1024;
 const NO_LIMIT: u32 = u32::MAX;
 
 // The function asked, with what it takes beside the section and the numbers of `args`.

@@ -1,11 +1,11 @@
 // The sample that crates/cases replays: inputs from one seed each, and the checksums of the published functions' answers to them.
 // The steps of `section` and `args` are those of crates/cases/src/samples/inputs.rt, number for number.
-use crate::port::Call;
+use crate::port::{Call, WIDTH};
 use crate::{Wanted, circle_numbers, is_added, port, wanted};
 
 const KINDS: u64 = 15;
 const CASES: u64 = 240;
-const STORE: usize = 448;
+const STORE: usize = 64 * WIDTH;
 const OUT: usize = 130;
 
 fn next(x: u64) -> u64 {
@@ -41,7 +41,7 @@ fn section(seed: u64) -> Vec<f64> {
     if seed % 2 == 0 { numbers } else { numbers[2..40].to_vec() }
 }
 
-fn args(seed: u64) -> [f64; 16] {
+fn args(seed: u64) -> [f64; 2 + 2 * WIDTH] {
     let w1 = next(seed ^ 0x5555_5555);
     let w2 = next(w1);
     let w3 = next(w2);
@@ -93,7 +93,7 @@ impl Left {
         self.told[1..1 + words.len()].copy_from_slice(&words);
         self.out[..numbers.len()].copy_from_slice(&numbers);
         for (i, c) in circles.into_iter().flatten().enumerate() {
-            self.store[7 * i..7 * i + 7].copy_from_slice(&circle_numbers(&c));
+            self.store[WIDTH * i..][..WIDTH].copy_from_slice(&circle_numbers(&c));
         }
         Some(())
     }

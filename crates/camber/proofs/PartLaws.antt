@@ -8,6 +8,7 @@ use lib.ListN.{length, take, drop, length-drop, drop-of-length-le}
 use lib.Seq.{take-all}
 use lib.Ieee.{Float}
 use Rattle.runs.specs.Run.{Final, underLimit}
+use Rattle.inscribed.specs.Store.{width}
 use Rattle.inscribed.specs.declared.Inscribed.{Inscribed}
 use Rattle.refine.specs.Machine.{State, refining, End}
 use Rattle.refine.specs.Report.{RunReport, reported, listedRun}
@@ -27,11 +28,11 @@ nothing-left a ns = omega (arith, length-drop a ns)
 tail-back : (a : ℕ) (ns ys : List Float) → a ≤ length ns → putMid a (length ns - a) ns ys ≡ take a ns ++ ys
 tail-back a ns ys h = ap (λ (x : List Float). take a ns ++ x) (rw (drop-of-length-le (drop a ns) (nothing-left a ns)) (append-nil ys))
 
-pub behind-run : (k : ℕ) (store : List Float) (r : Run) (after : List Float) (o : Final State End) → k * 7 ≤ length store
-    → listedRun r after ≡ reported (take (length store - k * 7) (drop (k * 7) store)) o
-    → listedRun (record { end = r .end; count = k + r .count; units = r .units }) (putMid (k * 7) (length store - k * 7) store after) ≡ partReport k store (reported (drop (k * 7) store) o)
+pub behind-run : (k : ℕ) (store : List Float) (r : Run) (after : List Float) (o : Final State End) → k * width ≤ length store
+    → listedRun r after ≡ reported (take (length store - k * width) (drop (k * width) store)) o
+    → listedRun (record { end = r .end; count = k + r .count; units = r .units }) (putMid (k * width) (length store - k * width) store after) ≡ partReport k store (reported (drop (k * width) store) o)
 unfolding partReport
-behind-run k store r after o h e = rw (tail-back (k * 7) store after h) (ap (λ (x : RunReport). partReport k store x) (rw (tail-seen (k * 7) store) at e))
+behind-run k store r after o h e = rw (tail-back (k * width) store after h) (ap (λ (x : RunReport). partReport k store x) (rw (tail-seen (k * width) store) at e))
 
 -- ---- a march's count and units
 

@@ -39,7 +39,7 @@ fn put_store(n: &mut [f64], store: &[f64; SIZE as usize]) {
 // Asks a function: what is handed in is copied out of the numbers, and what it puts out and leaves is copied back.
 fn ask_kind(kind: u64, place: usize, how: u64, limit: u32, n: &mut [f64], words: &mut [u64]) {
     let mut section = [0.0; 8194];
-    let mut args = [0.0; 16];
+    let mut args = [0.0; script::ARGUMENTS];
     let mut out = [0.0; ROOM as usize];
     let mut store = [0.0; SIZE as usize];
     buffers::copy_from(&mut section, n, script::SECTION);

@@ -18,9 +18,12 @@ pub(crate) mod plain;
 
 pub(crate) const ARGS: u32 = 0;
 
-const OUT_MARK: usize = 16;
+// How many arguments there are: two tolerances, and two circles at most.
+pub(crate) const ARGUMENTS: usize = 2 + 2 * WIDTH;
 
-const STORE_MARK: usize = 17;
+const OUT_MARK: usize = ARGUMENTS;
+
+const STORE_MARK: usize = OUT_MARK + 1;
 
 pub(crate) const SECTION: u32 = 100;
 

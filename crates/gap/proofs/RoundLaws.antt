@@ -11,7 +11,7 @@ use Rattle.errors.specs.declared.Refusal.{Refusal}
 use Rattle.errors.specs.Answer.{Answer, result, refusal, _>>=_}
 use Rattle.points.specs.declared.Point2.{Point2}
 use Rattle.runs.specs.Run.{Ending, ended, spent, unfinished, Final, underLimit}
-use Rattle.inscribed.specs.Store.{circlesOf, stored}
+use Rattle.inscribed.specs.Store.{width, circlesOf, stored}
 use Rattle.inscribed.proofs.StoreLaws.{length-circles, stored-again, circles-of-stored}
 use Rattle.inscribed.specs.declared.Inscribed.{Inscribed}
 use Rattle.refine.specs.Machine.{State, circlesIn, End, refineRun}
@@ -98,12 +98,12 @@ module _ (ns : List Float) (tol : Float) (slots limit : ℕ) (gap : Gap) where
     unfolding round
     probed-as a p = rw (is-end, p)
 
-    pub round-refused : n * 7 ≤ length store → (k : Refusal) (r : EdgeFit) → refusal k ≡ probed ns tol gap end → fitIn store r ≡ fit (ended (refusal k)) cs u → Rounded (round ns tol slots full gap point cs u) store store (RoundEnd.Over r)
+    pub round-refused : n * width ≤ length store → (k : Refusal) (r : EdgeFit) → refusal k ≡ probed ns tol gap end → fitIn store r ≡ fit (ended (refusal k)) cs u → Rounded (round ns tol slots full gap point cs u) store store (RoundEnd.Over r)
     unfolding afterProbe
     round-refused h k r p e =
         rw (← probed-as (refusal k) p) (record { returned = ap stops e; left = sym (stored-again store n (omega arith)) })
 
-    pub round-missed : n * 7 ≤ length store → (r : EdgeFit) → result none ≡ probed ns tol gap end → fitIn store r ≡ fit (ended (result point)) cs u → Rounded (round ns tol slots full gap point cs u) store store (RoundEnd.Over r)
+    pub round-missed : n * width ≤ length store → (r : EdgeFit) → result none ≡ probed ns tol gap end → fitIn store r ≡ fit (ended (result point)) cs u → Rounded (round ns tol slots full gap point cs u) store store (RoundEnd.Over r)
     unfolding afterProbe
     round-missed h r p e =
         rw (← probed-as (result none) p) (record { returned = ap stops e; left = sym (stored-again store n (omega arith)) })

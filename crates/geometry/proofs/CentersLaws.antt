@@ -13,7 +13,7 @@ use Rattle.errors.specs.Answer.{result, refusal}
 use Rattle.curve2.specs.Entry.{badTolerance, listedEntry}
 use Rattle.curve2.specs.declared.Entry.{Entry}
 use Rattle.inscribed.specs.Circles.{center}
-use Rattle.inscribed.specs.Store.{circleAt, circlesFrom, slots, badStore, badStoreCount}
+use Rattle.inscribed.specs.Store.{width, circleAt, circlesFrom, slots, badStore, badStoreCount}
 use Rattle.geometry.specs.Camber.{badPoint, anyBadCenter, badCenters, camberEntry}
 use Rattle.errors.specs.declared.Refusal.the-variants.{BadNumber, NoRoom, Tolerance, TooFewKept}
 
@@ -42,13 +42,13 @@ module _ (ns : List Float) (k n : ℕ) (whole : Bool) (inv : anyBadCenter (circl
 -- ---- a store that passed
 
 pub camber-passed : (ns : List Float) (count : ℕ) (tol : Float) (badEnd : Bool) (ends room : ℕ) (r : Entry) → listedEntry r ≡ camberEntry ns count tol badEnd ends room → r ≡ Entry.Passed
-    → (count * 7 ≤ length ns) × (count ≤ 1024) × (2 * (count + ends) + 2 ≤ room) × (2 ≤ count + ends)
+    → (count * width ≤ length ns) × (count ≤ 1024) × (2 * (count + ends) + 2 ≤ room) × (2 ≤ count + ends)
 unfolding camberEntry
 camber-passed ns count tol badEnd ends room r is e = go (badStore ns count || (badCenters ns count || badEnd)) (badTolerance tol) (badStoreCount ns count) (ltb room (2 * (count + ends) + 2)) (ltb (count + ends) 2) refl refl refl (sym (rw e at is))
   where
     go : (a b d f g : Bool) → badStoreCount ns count ≡ d → ltb room (2 * (count + ends) + 2) ≡ f → ltb (count + ends) 2 ≡ g
         → cond a (refusal BadNumber) (cond b (refusal Tolerance) (cond (d || f) (refusal NoRoom) (cond g (refusal TooFewKept) (result (tt {0}))))) ≡ result (tt {0})
-        → (count * 7 ≤ length ns) × (count ≤ 1024) × (2 * (count + ends) + 2 ≤ room) × (2 ≤ count + ends)
+        → (count * width ≤ length ns) × (count ≤ 1024) × (2 * (count + ends) + 2 ≤ room) × (2 ≤ count + ends)
     go true b d f g p q s e = let z : _≡_ {A = ℕ} 0 1 = cc in absurd (omega arith)
     go false true d f g p q s e = let z : _≡_ {A = ℕ} 0 1 = cc in absurd (omega arith)
     go false false true f g p q s e = let z : _≡_ {A = ℕ} 0 1 = cc in absurd (omega arith)

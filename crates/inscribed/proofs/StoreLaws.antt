@@ -15,18 +15,18 @@ use Rattle.errors.specs.Answer.{result, refusal}
 use Rattle.errors.specs.declared.Refusal.{Refusal}
 use Rattle.curve2.specs.Entry.{listedEntry}
 use Rattle.curve2.specs.declared.Entry.{Entry}
-use Rattle.inscribed.specs.Store.{numbersOf, circleFrom, circleAt, circlesFrom, circlesOf, allNumbers, stored, badCircle, anyBad, slots, badStore, badStoreCount, circlesEntry, numbersFrom}
+use Rattle.inscribed.specs.Store.{width, numbersOf, circleFrom, circleAt, circlesFrom, circlesOf, allNumbers, stored, badCircle, anyBad, slots, badStore, badStoreCount, circlesEntry, numbersFrom}
 use Rattle.inscribed.specs.Code.{withCircle}
 use Rattle.inscribed.specs.declared.Inscribed.{Inscribed}
 use Rattle.errors.specs.declared.Refusal.the-variants.{BadNumber, NoRoom}
 
 -- ---- how many numbers
 
-pub length-numbers : (c : Inscribed) → length (numbersOf c) ≡ 7
+pub length-numbers : (c : Inscribed) → length (numbersOf c) ≡ width
 unfolding numbersOf
 length-numbers c = refl
 
-pub length-all : (cs : List Inscribed) → length (allNumbers cs) ≡ 7 * length cs
+pub length-all : (cs : List Inscribed) → length (allNumbers cs) ≡ width * length cs
 unfolding allNumbers
 length-all [] = refl
 length-all (c ∷ cs) = omega (arith, length-append (numbersOf c) (allNumbers cs), length-numbers c, length-all cs)
@@ -43,16 +43,16 @@ length-circles ns k (suc n) = ap suc (length-circles ns (suc k) n)
 
 -- ---- a circle by its numbers
 
--- seven equal numbers are the same circle
+-- equal numbers are the same circle
 same-circle : (ns ms : List Float) (i j : ℕ) → ((t : ℕ) → getD ns (i + t) nan ≡ getD ms (j + t) nan) → circleFrom ns i ≡ circleFrom ms j
 unfolding circleFrom
 same-circle ns ms i j h = rw (rw (add-zero i, add-zero j) at (h 0), h 1, h 2, h 3, h 4, h 5, h 6)
 
 -- behind a circle's numbers
 after-circle : (c : Inscribed) (ns : List Float) (k : ℕ) → circleAt (numbersOf c ++ ns) (suc k) ≡ circleAt ns k
-after-circle c ns k = same-circle (numbersOf c ++ ns) ns (suc k * 7) (k * 7) (λ t. ap (λ (z : ℕ). getD (numbersOf c ++ ns) z nan) (place t) ∙ getD-append-add (numbersOf c) ns (k * 7 + t) nan)
+after-circle c ns k = same-circle (numbersOf c ++ ns) ns (suc k * width) (k * width) (λ t. ap (λ (z : ℕ). getD (numbersOf c ++ ns) z nan) (place t) ∙ getD-append-add (numbersOf c) ns (k * width + t) nan)
   where
-    place : (t : ℕ) → suc k * 7 + t ≡ length (numbersOf c) + (k * 7 + t)
+    place : (t : ℕ) → suc k * width + t ≡ length (numbersOf c) + (k * width + t)
     place t = rw (length-numbers c) (omega arith)
 
 first-circle : (c : Inscribed) (ns : List Float) → circleAt (numbersOf c ++ ns) 0 ≡ c
@@ -79,30 +79,30 @@ circle-stored (c ∷ cs) rest (suc k) d h = rw (append-assoc (numbersOf c) (allN
 
 pub circle-of-stored : (cs : List Inscribed) (old : List Float) (k : ℕ) (d : Inscribed) → k < length cs → circleAt (stored cs old) k ≡ getD cs k d
 unfolding stored
-circle-of-stored cs old k d h = circle-stored cs (drop (7 * length cs) old) k d h
+circle-of-stored cs old k d h = circle-stored cs (drop (width * length cs) old) k d h
 
 -- ---- the first numbers of a store are those of its circles
 
-numbers-at : (ns : List Float) (i : ℕ) → i + 7 ≤ length ns → numbersOf (circleFrom ns i) ≡ take 7 (drop i ns)
+numbers-at : (ns : List Float) (i : ℕ) → i + width ≤ length ns → numbersOf (circleFrom ns i) ≡ take width (drop i ns)
 unfolding numbersOf circleFrom
 numbers-at ns i h =
     rw
     (add-one i, add-two i, add-three i, add-four i, add-five i, add-six i, drop-cons ns i nan (omega arith), drop-cons ns (suc i) nan (omega arith), drop-cons ns (suc (suc i)) nan (omega arith), drop-cons ns (suc (suc (suc i))) nan (omega arith), drop-cons ns (suc (suc (suc (suc i)))) nan (omega arith), drop-cons ns (suc (suc (suc (suc (suc i))))) nan (omega arith), drop-cons ns (suc (suc (suc (suc (suc (suc i)))))) nan (omega arith))
 
-pub numbers-from : (ns : List Float) (k n : ℕ) → (k + n) * 7 ≤ length ns → allNumbers (circlesFrom ns k n) ≡ take (7 * n) (drop (k * 7) ns)
+pub numbers-from : (ns : List Float) (k n : ℕ) → (k + n) * width ≤ length ns → allNumbers (circlesFrom ns k n) ≡ take (width * n) (drop (k * width) ns)
 unfolding circlesFrom allNumbers
 numbers-from ns k zero h = refl
 numbers-from ns k (suc n) h =
-    let s : 7 * suc n ≡ 7 + 7 * n = omega arith in
-    let p : suc k * 7 ≡ k * 7 + 7 = omega arith in
-    rw (s, take-add 7 (7 * n) (drop (k * 7) ns), drop-drop 7 (k * 7) ns, ← p, ← (numbers-from ns (suc k) n (omega arith)), ← (numbers-at ns (k * 7) (omega arith)))
+    let s : width * suc n ≡ width + width * n = omega arith in
+    let p : suc k * width ≡ k * width + width = omega arith in
+    rw (s, take-add width (width * n) (drop (k * width) ns), drop-drop width (k * width) ns, ← p, ← (numbers-from ns (suc k) n (omega arith)), ← (numbers-at ns (k * width) (omega arith)))
 
-pub numbers-of-circles : (ns : List Float) (n : ℕ) → 7 * n ≤ length ns → allNumbers (circlesOf ns n) ≡ take (7 * n) ns
+pub numbers-of-circles : (ns : List Float) (n : ℕ) → width * n ≤ length ns → allNumbers (circlesOf ns n) ≡ take (width * n) ns
 numbers-of-circles ns n h = numbers-from ns 0 n (omega arith)
 
-pub stored-again : (ns : List Float) (n : ℕ) → 7 * n ≤ length ns → stored (circlesOf ns n) ns ≡ ns
+pub stored-again : (ns : List Float) (n : ℕ) → width * n ≤ length ns → stored (circlesOf ns n) ns ≡ ns
 unfolding stored
-stored-again ns n h = rw (length-circles ns 0 n, numbers-of-circles ns n h) (take-append-drop (7 * n) ns)
+stored-again ns n h = rw (length-circles ns 0 n, numbers-of-circles ns n h) (take-append-drop (width * n) ns)
 
 -- ---- a circle put
 
@@ -112,25 +112,25 @@ stored-again ns n h = rw (length-circles ns 0 n, numbers-of-circles ns n h) (tak
 pub stored-longer : (xs cs : List Inscribed) (old : List Float) → length cs ≤ length xs → stored xs (stored cs old) ≡ stored xs old
 unfolding stored
 stored-longer xs cs old h =
-    let more : ℕ = 7 * length xs - 7 * length cs in
-    let e : 7 * length xs ≡ length (allNumbers cs) + more = omega (arith, length-all cs) in
-    let f : 7 * length cs + more ≡ 7 * length xs = omega arith in
+    let more : ℕ = width * length xs - width * length cs in
+    let e : width * length xs ≡ length (allNumbers cs) + more = omega (arith, length-all cs) in
+    let f : width * length cs + more ≡ width * length xs = omega arith in
     ap (λ (x : List Float). allNumbers xs ++ x)
-    (ap (λ (k : ℕ). drop k (allNumbers cs ++ drop (7 * length cs) old)) e
-    ∙ drop-append-add (allNumbers cs) (drop (7 * length cs) old) more
-    ∙ drop-drop more (7 * length cs) old
+    (ap (λ (k : ℕ). drop k (allNumbers cs ++ drop (width * length cs) old)) e
+    ∙ drop-append-add (allNumbers cs) (drop (width * length cs) old) more
+    ∙ drop-drop more (width * length cs) old
     ∙ ap (λ (k : ℕ). drop k old) f)
 
 pub circles-of-stored : (cs : List Inscribed) (old : List Float) → circlesOf (stored cs old) (length cs) ≡ cs
 unfolding stored
-circles-of-stored cs old = circles-stored cs (drop (7 * length cs) old)
+circles-of-stored cs old = circles-stored cs (drop (width * length cs) old)
 
-pub seven-sets : (ns : List Float) (k : ℕ) (c : Inscribed) → (k + 1) * 7 ≤ length ns
-    → set (set (set (set (set (set (set ns (k * 7) (c .cx)) (k * 7 + 1) (c .cy)) (k * 7 + 2) (c .r)) (k * 7 + 3) (c .p0x)) (k * 7 + 4) (c .p0y)) (k * 7 + 5) (c .p1x)) (k * 7 + 6) (c .p1y)
+pub circle-sets : (ns : List Float) (k : ℕ) (c : Inscribed) → (k + 1) * width ≤ length ns
+    → set (set (set (set (set (set (set ns (k * width) (c .cx)) (k * width + 1) (c .cy)) (k * width + 2) (c .r)) (k * width + 3) (c .p0x)) (k * width + 4) (c .p0y)) (k * width + 5) (c .p1x)) (k * width + 6) (c .p1y)
     ≡ withCircle ns k c
 unfolding withCircle numbersOf
-seven-sets ns k c h =
-    let i = k * 7 in
+circle-sets ns k c h =
+    let i = k * width in
     rw (add-one i, add-two i, add-three i, add-four i, add-five i, add-six i) (sets-eq (numbersOf c) ns i (omega arith))
 
 all-numbers-snoc : (cs : List Inscribed) (c : Inscribed) → allNumbers (cs ++ (c ∷ [])) ≡ allNumbers cs ++ numbersOf c
@@ -144,10 +144,10 @@ unfolding withCircle stored
 stored-push cs old c =
     let n = length cs in
     let a = length-all cs in
-    let behind = drop (7 * n) old in
-    let whole : length cs * 7 + 7 ≡ length (allNumbers cs) + 7 = omega arith in
-    let more : 7 * length (cs ++ (c ∷ [])) ≡ 7 * n + 7 = omega (arith, length-append cs (c ∷ [])) in
-    rw (take-at (allNumbers cs) behind (n * 7) (omega arith), whole, drop-append-add (allNumbers cs) behind 7, drop-drop 7 (7 * n) old, more, all-numbers-snoc cs c)
+    let behind = drop (width * n) old in
+    let whole : length cs * width + width ≡ length (allNumbers cs) + width = omega arith in
+    let more : width * length (cs ++ (c ∷ [])) ≡ width * n + width = omega (arith, length-append cs (c ∷ [])) in
+    rw (take-at (allNumbers cs) behind (n * width) (omega arith), whole, drop-append-add (allNumbers cs) behind width, drop-drop width (width * n) old, more, all-numbers-snoc cs c)
 
 -- ---- the bad circles of a store, one by one
 
@@ -173,23 +173,23 @@ module _ (ns : List Float) (k n : ℕ) (whole : Bool) (inv : anyBad (circlesFrom
 
 -- ---- what can be handed out
 
-entry-bounds : (ns : List Float) (count place : ℕ) → circlesEntry ns count place ≡ result tt → (place ≤ count) × (count * 7 ≤ length ns)
+entry-bounds : (ns : List Float) (count place : ℕ) → circlesEntry ns count place ≡ result tt → (place ≤ count) × (count * width ≤ length ns)
 unfolding circlesEntry
 entry-bounds ns count place e = go (badStore ns count) (badStoreCount ns count) (ltb count place) refl refl e
   where
-    go : (a b d : Bool) → badStoreCount ns count ≡ b → ltb count place ≡ d → cond a (refusal BadNumber) (cond (b || d) (refusal NoRoom) (result (tt {0}))) ≡ result (tt {0}) → (place ≤ count) × (count * 7 ≤ length ns)
+    go : (a b d : Bool) → badStoreCount ns count ≡ b → ltb count place ≡ d → cond a (refusal BadNumber) (cond (b || d) (refusal NoRoom) (result (tt {0}))) ≡ result (tt {0}) → (place ≤ count) × (count * width ≤ length ns)
     go true b d p q f = let z : _≡_ {A = ℕ} 0 1 = cc in absurd (omega arith)
     go false true d p q f = let z : _≡_ {A = ℕ} 0 1 = cc in absurd (omega arith)
     go false false true p q f = let z : _≡_ {A = ℕ} 0 1 = cc in absurd (omega arith)
     go false false false p q f = (ltb-false count place q, omega (arith, ltb-false (slots ns) count p))
 
 module _ (ns : List Float) (count place : ℕ) (r : Entry) (is : listedEntry r ≡ circlesEntry ns count place) where
-  pub part-bounds : r ≡ Entry.Passed → (place ≤ count) × (count * 7 ≤ length ns)
+  pub part-bounds : r ≡ Entry.Passed → (place ≤ count) × (count * width ≤ length ns)
   part-bounds e = entry-bounds ns count place (sym (rw e at is))
 
-  pub part-passed : r ≡ Entry.Passed → take (count * 7 - place * 7) (drop (place * 7) ns) ≡ numbersFrom ns count place
+  pub part-passed : r ≡ Entry.Passed → take (count * width - place * width) (drop (place * width) ns) ≡ numbersFrom ns count place
   unfolding numbersFrom
-  part-passed e = let z : (count - place) * 7 ≡ count * 7 - place * 7 = omega arith in rw (← (rw e at is), z)
+  part-passed e = let z : (count - place) * width ≡ count * width - place * width = omega arith in rw (← (rw e at is), z)
 
   pub part-refused : (x : Refusal) → r ≡ Entry.Refused x → [] ≡ numbersFrom ns count place
   unfolding numbersFrom

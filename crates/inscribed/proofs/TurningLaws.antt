@@ -7,7 +7,7 @@ use lib.ListN.{length, length-append, length-map, length-reverse, take, drop}
 use lib.Seq.{take-at, drop-append-add, getD-append-seam}
 use lib.Ieee.{Float}
 use Rattle.inscribed.specs.Circles.{reversedPoints}
-use Rattle.inscribed.specs.Store.{circleAt, circlesOf, allNumbers, numbersOf, stored}
+use Rattle.inscribed.specs.Store.{width, circleAt, circlesOf, allNumbers, numbersOf, stored}
 use Rattle.inscribed.specs.Code.{withCircle}
 use Rattle.inscribed.specs.declared.Inscribed.{Inscribed}
 use Rattle.inscribed.proofs.StoreLaws.{length-all, numbers-append, length-circles, circles-of-stored, circle-of-stored, stored-again, stored-longer}
@@ -31,19 +31,19 @@ snoc-of x (y ∷ ys) = let s = snoc-of y ys in record { before = x ∷ s .before
 -- ---- one circle in the middle of a store
 
 put-among : (xs : List Inscribed) (x c : Inscribed) (ys : List Inscribed) (rest : List Float)
-    → take (length xs * 7) (allNumbers xs ++ (allNumbers (x ∷ ys) ++ rest)) ++ numbersOf c ++ drop (length xs * 7 + 7) (allNumbers xs ++ (allNumbers (x ∷ ys) ++ rest))
+    → take (length xs * width) (allNumbers xs ++ (allNumbers (x ∷ ys) ++ rest)) ++ numbersOf c ++ drop (length xs * width + width) (allNumbers xs ++ (allNumbers (x ∷ ys) ++ rest))
     ≡ allNumbers xs ++ (allNumbers (c ∷ ys) ++ rest)
 unfolding allNumbers numbersOf
 put-among xs x c ys rest =
-    let w : length xs * 7 + 7 ≡ length (allNumbers xs) + 7 = omega (arith, length-all xs) in
-    rw (take-at (allNumbers xs) (allNumbers (x ∷ ys) ++ rest) (length xs * 7) (omega (arith, length-all xs)), w, drop-append-add (allNumbers xs) (allNumbers (x ∷ ys) ++ rest) 7)
+    let w : length xs * width + width ≡ length (allNumbers xs) + width = omega (arith, length-all xs) in
+    rw (take-at (allNumbers xs) (allNumbers (x ∷ ys) ++ rest) (length xs * width) (omega (arith, length-all xs)), w, drop-append-add (allNumbers xs) (allNumbers (x ∷ ys) ++ rest) width)
     (append-assoc (allNumbers xs) (numbersOf c) (allNumbers ys ++ rest))
 
 put-stored : (xs : List Inscribed) (x c : Inscribed) (ys : List Inscribed) (old : List Float) → withCircle (stored (xs ++ x ∷ ys) old) (length xs) c ≡ stored (xs ++ c ∷ ys) old
 unfolding withCircle stored
 put-stored xs x c ys old =
-    let same : 7 * length (xs ++ c ∷ ys) ≡ 7 * length (xs ++ x ∷ ys) = omega (arith, length-append xs (c ∷ ys), length-append xs (x ∷ ys)) in
-    let rest = drop (7 * length (xs ++ x ∷ ys)) old in
+    let same : width * length (xs ++ c ∷ ys) ≡ width * length (xs ++ x ∷ ys) = omega (arith, length-append xs (c ∷ ys), length-append xs (x ∷ ys)) in
+    let rest = drop (width * length (xs ++ x ∷ ys)) old in
     rw (same, numbers-append xs (x ∷ ys), numbers-append xs (c ∷ ys), append-assoc (allNumbers xs) (allNumbers (x ∷ ys)) rest, append-assoc (allNumbers xs) (allNumbers (c ∷ ys)) rest)
     (put-among xs x c ys rest)
 
@@ -61,7 +61,7 @@ pub record Turning (old : List Float) (whole : List Inscribed) (store : List Flo
   pub holds : store ≡ stored (front ++ (middle ++ back)) old
   pub left : front ++ (reverse middle ++ back) ≡ whole
 
-pub turn-start : (old : List Float) (n : ℕ) → n * 7 ≤ length old → Turning old (reverse (circlesOf old n)) old 0 n
+pub turn-start : (old : List Float) (n : ℕ) → n * width ≤ length old → Turning old (reverse (circlesOf old n)) old 0 n
 turn-start old n h = record {
   front = [];
   middle = circlesOf old n;
@@ -142,7 +142,7 @@ pub record Swapping (old : List Float) (whole : List Inscribed) (n : ℕ) (store
   pub holds : store ≡ stored (done ++ rest) old
   pub left : done ++ map reversedPoints rest ≡ whole
 
-pub swap-start : (old : List Float) (n : ℕ) → n * 7 ≤ length old → Swapping old (map reversedPoints (circlesOf old n)) n old 0
+pub swap-start : (old : List Float) (n : ℕ) → n * width ≤ length old → Swapping old (map reversedPoints (circlesOf old n)) n old 0
 swap-start old n h = record {
   done = [];
   rest = circlesOf old n;

@@ -1,4 +1,4 @@
--- Inscribed circles: the circle, and the store that holds its seven numbers.
+-- Inscribed circles: the circle, and the store that holds its numbers.
 pub mod Circles
 pub mod Store
 pub mod Lists

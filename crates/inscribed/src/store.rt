@@ -1,4 +1,4 @@
-// The store of circles: the caller's numbers, seven to a circle, packed from the start. A circle's numbers are read by `circle_at` and written by `put_circle` alone.
+// The store of circles: the caller's numbers, `WIDTH` to a circle, packed from the start. A circle's numbers are read by `circle_at` and written by `put_circle` alone.
 use crate::Inscribed;
 use crate::checked;
 use curve2::Entry;

@@ -14,32 +14,32 @@ use Rattle.curve2.specs.Entry.{listedEntry}
 use Rattle.curve2.specs.declared.Entry.{Entry}
 use Rattle.sections.specs.Asked.{listedBool}
 use Rattle.sections.specs.declared.BoolAnswer.{BoolAnswer}
-use Rattle.inscribed.specs.Store.{circlesOf, stored, slots, badStore, badStoreCount}
+use Rattle.inscribed.specs.Store.{width, circlesOf, stored, slots, badStore, badStoreCount}
 use Rattle.inscribed.specs.declared.Inscribed.{Inscribed}
 use Rattle.orient.specs.Orientation.{orientEntry, Oriented}
 use Rattle.errors.specs.declared.Refusal.the-variants.{BadNumber, NoRoom, TooFewCircles}
 
 -- ---- a store that passed
 
-entry-bounds : (ns : List Float) (count : ℕ) (bad : Bool) → orientEntry ns count bad ≡ result tt → (count * 7 ≤ length ns) × (1 ≤ count) × (count ≤ 1024)
+entry-bounds : (ns : List Float) (count : ℕ) (bad : Bool) → orientEntry ns count bad ≡ result tt → (count * width ≤ length ns) × (1 ≤ count) × (count ≤ 1024)
 unfolding orientEntry
 entry-bounds ns count bad e = go (badStore ns count || bad) (badStoreCount ns count) (ltb count 2) refl refl e
   where
     go : (a b d : Bool) → badStoreCount ns count ≡ b → ltb count 2 ≡ d → cond a (refusal BadNumber) (cond b (refusal NoRoom) (cond d (refusal TooFewCircles) (result (tt {0})))) ≡ result (tt {0})
-        → (count * 7 ≤ length ns) × (1 ≤ count) × (count ≤ 1024)
+        → (count * width ≤ length ns) × (1 ≤ count) × (count ≤ 1024)
     go true b d p q f = let z : _≡_ {A = ℕ} 0 1 = cc in absurd (omega arith)
     go false true d p q f = let z : _≡_ {A = ℕ} 0 1 = cc in absurd (omega arith)
     go false false true p q f = let z : _≡_ {A = ℕ} 0 1 = cc in absurd (omega arith)
     go false false false p q f = let h = ltb-false (slots ns) count p in (omega (arith, h), omega (arith, ltb-false count 2 q), omega (arith, h))
 
-pub orient-passed : (ns : List Float) (count : ℕ) (bad : Bool) (r : Entry) → listedEntry r ≡ orientEntry ns count bad → r ≡ Entry.Passed → (count * 7 ≤ length ns) × (1 ≤ count) × (count ≤ 1024)
+pub orient-passed : (ns : List Float) (count : ℕ) (bad : Bool) (r : Entry) → listedEntry r ≡ orientEntry ns count bad → r ≡ Entry.Passed → (count * width ≤ length ns) × (1 ≤ count) × (count ≤ 1024)
 orient-passed ns count bad r is e = entry-bounds ns count bad (sym (rw e at is))
 
 -- an answer behind the entry tests
-pub asked-bounds : (ns : List Float) (count : ℕ) (bad : Bool) (more : Answer Bool) (b : Bool) → result b ≡ (orientEntry ns count bad >>= λ passed. more) → count * 7 ≤ length ns
+pub asked-bounds : (ns : List Float) (count : ℕ) (bad : Bool) (more : Answer Bool) (b : Bool) → result b ≡ (orientEntry ns count bad >>= λ passed. more) → count * width ≤ length ns
 asked-bounds ns count bad more b e = go (orientEntry ns count bad) refl e
   where
-    go : (x : Answer (Unit {0})) → orientEntry ns count bad ≡ x → result b ≡ (x >>= λ passed. more) → count * 7 ≤ length ns
+    go : (x : Answer (Unit {0})) → orientEntry ns count bad ≡ x → result b ≡ (x >>= λ passed. more) → count * width ≤ length ns
     go (result tt) p f = entry-bounds ns count bad p .0
     go (refusal n) p f = let z : _≡_ {A = ℕ} 0 1 = cc in absurd (omega arith)
 

@@ -9,7 +9,7 @@ use lib.Ieee.{Float}
 use Rattle.errors.specs.Answer.{refusal}
 use Rattle.runs.specs.Run.{Move, ended, Final, underLimit}
 use Rattle.runs.proofs.RunLaws.{whole-ends, whole-goes}
-use Rattle.inscribed.specs.Store.{circlesOf}
+use Rattle.inscribed.specs.Store.{width, circlesOf}
 use Rattle.inscribed.specs.Code.{withCircle}
 use Rattle.inscribed.specs.declared.Inscribed.{Inscribed}
 use Rattle.inscribed.proofs.StoreLaws.{stored-push}
@@ -47,7 +47,7 @@ module _ (ns : List Float) (tol : Float) (slots limit : ℕ) (old : List Float) 
         }
 
 -- an empty store
-module _ (ns : List Float) (tol : Float) (slots limit : ℕ) (old : List Float) (b : Inscribed) (u : ℕ) (room : slots * 7 ≤ length old) where
+module _ (ns : List Float) (tol : Float) (slots limit : ℕ) (old : List Float) (b : Inscribed) (u : ℕ) (room : slots * width ≤ length old) where
   begun : Left ns tol slots limit old (refineRun ns tol slots (underLimit limit) (circlesOf old 0) (b ∷ []) u) old 0 (b ∷ []) u
   begun = loop-start ns tol slots limit old 0 (b ∷ []) u (omega arith) room
 

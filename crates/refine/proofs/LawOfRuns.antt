@@ -13,7 +13,7 @@ use Rattle.errors.proofs.Laws.{not-0, not-14}
 use Rattle.runs.specs.Run.{Move, goes, pays, Ending, ended, spent, unfinished, Final, underLimit, never, whole}
 use Rattle.runs.proofs.RunLaws.{Falls}
 use Rattle.runs.proofs.LimitLaws.{Grows, part-grows, run-holds, spent-if, if-spent, not-spent, units-min, not-spent-later, part-later, finishes}
-use Rattle.inscribed.specs.Store.{circlesOf, allNumbers, stored}
+use Rattle.inscribed.specs.Store.{width, circlesOf, allNumbers, stored}
 use Rattle.inscribed.specs.declared.Inscribed.{Inscribed}
 use Rattle.inscribed.proofs.StoreLaws.{length-all, numbers-append, length-circles, numbers-of-circles}
 use Rattle.refine.specs.Machine.{State, circlesIn, End}
@@ -55,7 +55,7 @@ unfolding allNumbers
 still-law ns tol old count c ends same counted none other limit = record {
   plain-ends = ends;
   ends = ends;
-  store = rw (same, add-zero count, append-nil (take (7 * count) old)) (sym (take-append-drop (7 * count) old));
+  store = rw (same, add-zero count, append-nil (take (width * count) old)) (sym (take-append-drop (width * count) old));
   counted = rw counted (sym (add-zero count));
   settled = rw (append-nil (oldLast old count)) (short-settled ns tol (oldLast old count) (short-last old count));
   spent-if = λ h. absurd (omega (arith, h, none));
@@ -70,7 +70,7 @@ still-law ns tol old count c ends same counted none other limit = record {
 -- ---- a run
 
 module _ (step : State → Move State End) (measure : State → ℕ) (falls : Falls step measure) (grows : Grows step Part) (ns : List Float) (tol : Float) (old : List Float) (count : ℕ) (start : State)
-    (begins : circlesIn start ≡ circlesOf old count) (room : 7 * count ≤ length old) (start-sound : Sound ns tol count start)
+    (begins : circlesIn start ≡ circlesOf old count) (room : width * count ≤ length old) (start-sound : Sound ns tol count start)
     (sound-goes : (s t : State) → step s ≡ goes t → Sound ns tol count s → Sound ns tol count t) (sound-pays : (s t : State) → step s ≡ pays t → Sound ns tol count s → Sound ns tol count t) where
   abbrev pub circlesUnder : (ℕ → Bool) → List Inscribed
   circlesUnder full = circlesIn (whole step measure full start 0 .state)
@@ -88,13 +88,13 @@ module _ (step : State → Move State End) (measure : State → ℕ) (falls : Fa
   whole-count full =
       ap length (whole-list full) ∙ length-append (circlesOf old count) (drop count (circlesUnder full)) ∙ ap (λ (x : ℕ). x + length (drop count (circlesUnder full))) (length-circles old 0 count)
 
-  whole-store : (full : ℕ → Bool) → stored (circlesUnder full) old ≡ take (7 * count) old ++ allNumbers (drop count (circlesUnder full)) ++ drop (7 * (count + length (drop count (circlesUnder full)))) old
+  whole-store : (full : ℕ → Bool) → stored (circlesUnder full) old ≡ take (width * count) old ++ allNumbers (drop count (circlesUnder full)) ++ drop (width * (count + length (drop count (circlesUnder full)))) old
   unfolding stored
   whole-store full =
       let ds = drop count (circlesUnder full) in
-      let n : allNumbers (circlesUnder full) ≡ take (7 * count) old ++ allNumbers ds =
+      let n : allNumbers (circlesUnder full) ≡ take (width * count) old ++ allNumbers ds =
       ap allNumbers (whole-list full) ∙ numbers-append (circlesOf old count) ds ∙ ap (λ (x : List Float). x ++ allNumbers ds) (numbers-of-circles old count room) in
-      ap (λ (x : List Float). x ++ drop (7 * length (circlesUnder full)) old) n ∙ ap (λ (x : ℕ). take (7 * count) old ++ allNumbers ds ++ drop (7 * x) old) (whole-count full)
+      ap (λ (x : List Float). x ++ drop (width * length (circlesUnder full)) old) n ∙ ap (λ (x : ℕ). take (width * count) old ++ allNumbers ds ++ drop (width * x) old) (whole-count full)
 
   whole-settled : (full : ℕ → Bool) → Settled ns tol (oldLast old count ++ drop count (circlesUnder full))
   unfolding whole
@@ -105,11 +105,11 @@ module _ (step : State → Move State End) (measure : State → ℕ) (falls : Fa
       rw d at (s .settled)
 
   -- the first numbers are those of the first circles
-  first-numbers : (cs more : List Inscribed) → take (7 * length cs) (stored (cs ++ more) old) ≡ allNumbers cs
+  first-numbers : (cs more : List Inscribed) → take (width * length cs) (stored (cs ++ more) old) ≡ allNumbers cs
   unfolding stored
   first-numbers cs more =
-      rw (numbers-append cs more, append-assoc (allNumbers cs) (allNumbers more) (drop (7 * length (cs ++ more)) old))
-      (take-at (allNumbers cs) (allNumbers more ++ drop (7 * length (cs ++ more)) old) (7 * length cs) (length-all cs))
+      rw (numbers-append cs more, append-assoc (allNumbers cs) (allNumbers more) (drop (width * length (cs ++ more)) old))
+      (take-at (allNumbers cs) (allNumbers more ++ drop (width * length (cs ++ more)) old) (width * length cs) (length-all cs))
 
   abbrev pub at : ℕ → Called (Unit {0})
   at limit = ran (reported old (whole step measure (underLimit limit) start 0))
@@ -133,6 +133,6 @@ module _ (step : State → Move State End) (measure : State → ℕ) (falls : Fa
     first = λ more h.
         let p = part-later step measure start Part grows limit more h in
         let cs = circlesUnder (underLimit limit) in
-        rw (p .1) (first-numbers cs (p .0)) ∙ sym (ap (λ (x : List Inscribed). take (7 * length cs) (stored x old)) (sym (append-nil cs)) ∙ first-numbers cs []);
+        rw (p .1) (first-numbers cs (p .0)) ∙ sym (ap (λ (x : List Inscribed). take (width * length cs) (stored x old)) (sym (append-nil cs)) ∙ first-numbers cs []);
     fewer = λ more h. let p = part-later step measure start Part grows limit more h in omega (arith, ap length (p .1), length-append (circlesUnder (underLimit limit)) (p .0));
   }

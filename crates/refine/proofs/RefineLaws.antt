@@ -15,7 +15,7 @@ use Rattle.errors.specs.Answer.{Answer, result, refusal}
 use Rattle.errors.specs.Lists.{lastOf}
 use Rattle.runs.specs.Run.{Move, pays, Ending, ended, spent, Final, finalOf, underLimit, whole}
 use Rattle.runs.proofs.RunLaws.{whole-ends, whole-pays, whole-spent}
-use Rattle.inscribed.specs.Store.{circleAt, circlesOf, stored}
+use Rattle.inscribed.specs.Store.{width, circleAt, circlesOf, stored}
 use Rattle.inscribed.specs.Code.{withCircle}
 use Rattle.errors.specs.declared.Refusal.{Refusal}
 use Rattle.inscribed.specs.declared.Inscribed.{Inscribed}
@@ -158,7 +158,7 @@ module _ (ns : List Float) (tol : Float) (slots limit : ℕ) (old : List Float) 
         }
 
 -- the loop begins with the old circles
-pub loop-start : (ns : List Float) (tol : Float) (slots limit : ℕ) (old : List Float) (n : ℕ) (ws : List Inscribed) (u : ℕ) → n ≤ slots → slots * 7 ≤ length old
+pub loop-start : (ns : List Float) (tol : Float) (slots limit : ℕ) (old : List Float) (n : ℕ) (ws : List Inscribed) (u : ℕ) → n ≤ slots → slots * width ≤ length old
     → Left ns tol slots limit old (refineRun ns tol slots (underLimit limit) (circlesOf old n) ws u) old n ws u
 loop-start ns tol slots limit old n ws u h k = record { cs = circlesOf old n; long = length-circles old 0 n; holds = sym (stored-again old n (omega arith)); left = refl }
 

@@ -16,7 +16,7 @@ use Rattle.curve2.specs.Entry.{HasPoints}
 use Rattle.curve2.proofs.Laws.{entry-passed, entry-room}
 use Rattle.runs.specs.Run.{Move, ends, goes, underLimit, never, whole}
 use Rattle.runs.proofs.LimitLaws.{run-holds, ended-step}
-use Rattle.inscribed.specs.Store.{slots, circlesOf}
+use Rattle.inscribed.specs.Store.{width, slots, circlesOf}
 use Rattle.inscribed.specs.declared.Inscribed.{Inscribed}
 use Rattle.inscribed.proofs.StoreLaws.{length-circles}
 use Rattle.refine.specs.Machine.{State, refining, advancing, stopped, circlesIn, End, finished, refineMove, measure, refineStep}
@@ -28,7 +28,7 @@ use Rattle.refine.proofs.LawOfRuns.{result-number, still-law, run-law, 
 use Rattle.refine.proofs.MoveLaws.{refine-falls}
 use Rattle.errors.specs.declared.Refusal.the-variants.{StoreFull}
 
-pub within-slots : (ns : List Float) (count : ℕ) → count ≤ slots ns → 7 * count ≤ length ns
+pub within-slots : (ns : List Float) (count : ℕ) → count ≤ slots ns → width * count ≤ length ns
 within-slots ns count h = omega arith
 
 module _ (o : Offer) where

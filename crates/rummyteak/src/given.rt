@@ -4,7 +4,7 @@ use inscribed::store::WIDTH;
 ghost use mathlib.Core.Path.{_≡_};
 ghost use Rattle.inscribed.specs.Store.{circleAt};
 
-// The circle of seven numbers.
+// The circle of a circle's numbers.
 pub(crate) fn circle_of(numbers: &[f64; WIDTH]) -> Inscribed
     ensures { λ r. ⌜ r ≡ circleAt (now (numbers .entry)) 0 ⌝ }
 {

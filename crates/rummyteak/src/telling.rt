@@ -151,7 +151,7 @@ pub(crate) fn tell_line(a: LineAnswer, line: &mut [f64; 4]) -> u32
     }
 }
 
-// Writes a circle's seven numbers.
+// Writes a circle's numbers.
 fn put_circle(circle: &mut [f64; WIDTH], c: Inscribed)
     ensures { λ _. ⌜ now (circle .exit) ≡ numbersOf c ⌝ }
 {

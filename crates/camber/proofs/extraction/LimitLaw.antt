@@ -12,7 +12,7 @@ use Rattle.errors.specs.Answer.{Answer, result, refusal}
 use Rattle.line2.specs.Lines.{reversedLine}
 use Rattle.runs.specs.Run.{Ending, ended, spent, unfinished, Final, underLimit, whole}
 use Rattle.runs.proofs.LimitLaws.{compared, finishes}
-use Rattle.inscribed.specs.Store.{slots, stored}
+use Rattle.inscribed.specs.Store.{width, slots, stored}
 use Rattle.inscribed.specs.declared.Inscribed.{Inscribed}
 use Rattle.inscribed.specs.Lists.{turned}
 use Rattle.refine.specs.Machine.{State, refining, circlesIn, End, measure}
@@ -39,7 +39,7 @@ module _ (limit more : ℕ) (h : limit ≤ more) where
   unfolding secondMarch reported
   second-larger ns tol slots store k u (refusal n) f = refl
   second-larger ns tol slots store k u (result c) f =
-      ap (λ (o : Final State End). partReport k store (reported (drop (k * 7) store) o)) (march-larger ns tol (slots - k) (refining [] (c ∷ [])) u f)
+      ap (λ (o : Final State End). partReport k store (reported (drop (k * width) store) o)) (march-larger ns tol (slots - k) (refining [] (c ∷ [])) u f)
 
   module _ (m : Marched) where
     after-larger : (o : Final State End) (e : Ending End) → (afterFirst m (underLimit limit) o e .ending ≡ spent → ⊥) → afterFirst m (underLimit more) o e ≡ afterFirst m (underLimit limit) o e

@@ -1,4 +1,5 @@
 // The inputs of the sample, each from one seed. oracle/sample.rs makes the same ones.
+use crate::script::ARGUMENTS;
 
 // The next word of a xorshift generator.
 pub(crate) fn next(x: u64) -> u64 {
@@ -46,7 +47,7 @@ pub(crate) fn section(seed: u64) -> [f64; 42] {
 }
 
 // Tolerances, and a line or two circles.
-pub(crate) fn args(seed: u64) -> [f64; 16] {
+pub(crate) fn args(seed: u64) -> [f64; ARGUMENTS] {
     let w1 = next(seed ^ 0x5555_5555);
     let w2 = next(w1);
     let w3 = next(w2);

@@ -1,4 +1,4 @@
--- `circle_at` reads the seven numbers of slot k. Assumes nothing.
+-- `circle_at` reads the numbers of slot k. Assumes nothing.
 use borrow.Author.Needs.{needs}
 use mathlib.Core.Path.{refl}
 use Rattle.inscribed.specs.Store.{circleFrom}

@@ -1,8 +1,8 @@
--- `put_circle` writes the seven numbers of slot k. Assumes nothing.
+-- `put_circle` writes the numbers of slot k. Assumes nothing.
 use borrow.Author.Needs.{needs}
 use native.Mathlib.Omega.{arith}
 use lib.ListN.{length-set}
-use Rattle.inscribed.proofs.StoreLaws.{seven-sets}
+use Rattle.inscribed.proofs.StoreLaws.{circle-sets}
 use Rattle.inscribed.proofs.checked.put_circle.Statement.{statement}
 use Rattle.inscribed.proofs.checked.put_circle.Tie as tie
 
@@ -73,7 +73,7 @@ same-length : tie.Need-same-length
 same-length c = search needs
 
 returns : tie.Need-returns
-returns c = seven-sets _ _ _ (omega arith)
+returns c = circle-sets _ _ _ (omega arith)
 
 pub put-circle-spec : {M : Type 1} → statement M
 put-circle-spec =

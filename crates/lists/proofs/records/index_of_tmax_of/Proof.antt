@@ -47,7 +47,7 @@ use denote.Triple.Spec.{Meets, tripleOf}
 use denote.Triple.Statement.{Contract, Triple}
 use denote.Triple.Table.{entered, cited}
 use denote.Triple.Walked.{says, Stays, stay-none-slice, walkOf, AllGo, goes-none-slice, Walks, ends-at, walked, walk-meets}
-use Rattle.inscribed.specs.Store.{circleFrom}
+use Rattle.inscribed.specs.Store.{width, circleFrom}
 use Rattle.inscribed.specs.declared.Inscribed.{Inscribed}
 use Rattle.inscribed.proofs.Inscribed as T
 use Rattle.inscribed.proofs.Inscribed.Laws as T′
@@ -104,6 +104,10 @@ seen = spell body.table (pointee (S.the-row .written))
 
 abbrev answer : Ty
 answer = spell body.table (pointee (P.the-row .written))
+
+-- how many bytes a record has, eight to a number
+abbrev bytes : ℕ
+bytes = 8 * width
 
 abbrev Arg : Type 0
 Arg = RefT (List Inscribed) × Unit {0}
@@ -238,7 +242,7 @@ module _ {M : Type 1} (𝓤 : URA M) (H : Heap 𝓤) (A : Atoms 𝓤) (W : Given
           stays ! (load ! (from ! (stop !)) (look ! 5 refl)) $
           assigns ! (bin ! (load ! (from ! (stop !)) (look ! 3 refl)) (lit ! tt) (record { fits = mul-fits })) (from ! (stop !)) (store ! 4 refl (tt, record { fits = mul-fits })) $
           assigns ! (bin ! (load ! (from ! (fld ! refl (stop !))) (look-in ! 8 (sub ! 0 refl (whole !)))) (load ! (from ! (stop !)) (look ! 4 refl)) tt) (from ! (stop !)) (init ! 6 refl (tt, tt)) $
-          rewrite ! 6 (λ (p : ℕ). ‵ (fat fullShare tyPtr l₆ 0 (vptr b p))) (sym (place-is 56 o i)) refl $
+          rewrite ! 6 (λ (p : ℕ). ‵ (fat fullShare tyPtr l₆ 0 (vptr b p))) (sym (place-is bytes o i)) refl $
           looks-slice ! tt T.the-row (Is T.the-row) (shows 𝓤 H A T.the-row) (LL.vals T.the-type T′.the-laws) (LL.tells T.the-type T′.the-laws) ((LL.copy T.the-type T′.the-copy) 𝓤 H A W) ys b o (λ q′.
           elem-out ! T.the-row (Is T.the-row) (shows 𝓤 H A T.the-row) (LL.vals T.the-type T′.the-laws) (LL.tells T.the-type T′.the-laws) q′ ys i d b o h (λ p.
           assigns ! (of-opd ! (load ! (from ! (hop ! (look ! 9 refl) (stop !))) (look-raw ! 0 refl))) (from ! (stop !)) (init ! 10 refl (LL.lawful T.the-type T′.the-laws 𝓤 H A W .typed (getD ys i d) _ p .0)) $
@@ -258,7 +262,7 @@ module _ {M : Type 1} (𝓤 : URA M) (H : Heap 𝓤) (A : Atoms 𝓤) (W : Given
           next-fits : i + 1 < 2 ^ 64
           next-fits = omega (arith, g .0)
 
-          mul-fits : i * 56 < 2 ^ 64
+          mul-fits : i * bytes < 2 ^ 64
           mul-fits = omega (arith, g .1)
 
       -- the turn that leaves the loop, and the rest of the body

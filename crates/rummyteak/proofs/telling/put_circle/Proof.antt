@@ -1,4 +1,4 @@
--- `put_circle` writes the seven numbers in stored order. Assumes nothing.
+-- `put_circle` writes the numbers in stored order. Assumes nothing.
 use mathlib.Core.Path.{refl}
 use Rattle.inscribed.specs.Store.{numbersOf}
 use Rattle.rummyteak.proofs.telling.put_circle.Statement.{statement}
