@@ -253,6 +253,8 @@ pub struct Circle {
     pub r: f64,
     pub p0: (f64, f64),
     pub p1: (f64, f64),
+    // The lengths along of the nearest points to both.
+    pub along: (f64, f64),
 }
 
 // A point and a unit vector.
@@ -279,6 +281,25 @@ fn camber_point(c: &Circle) -> Ray {
     Ray { x: c.x, y: c.y, nx, ny }
 }
 
+// The lengths along of the nearest points to two, in one pass up to the later edge.
+fn lengths_along(section: &[f64], p: (f64, f64), q: (f64, f64)) -> (f64, f64) {
+    let (i, _, _, f, _) = nearest(section, p.0, p.1);
+    let (j, _, _, g, _) = nearest(section, q.0, q.1);
+    let mut m = 0.0;
+    let (mut at_p, mut at_q) = (0.0, 0.0);
+    for k in 0..=i.max(j) {
+        let n = length(section[2 * k + 2] - section[2 * k], section[2 * k + 3] - section[2 * k + 1]) + m;
+        if k == i {
+            at_p = m + (n - m) * f;
+        }
+        if k == j {
+            at_q = m + (n - m) * g;
+        }
+        m = n;
+    }
+    (at_p, at_q)
+}
+
 pub fn from_crossing(section: &[f64], tol: f64, l: Line) -> Circle {
     let resolve = tol * 0.1;
     let len = length(l.dx, l.dy);
@@ -297,7 +318,8 @@ pub fn from_crossing(section: &[f64], tol: f64, l: Line) -> Circle {
         }
     }
     let (x, y) = l.at((pos.0 + neg.0) * 0.5);
-    Circle { x, y, r: (pos.1 + neg.1) * 0.5, p0: neg.2, p1: pos.2 }
+    let along = lengths_along(section, neg.2, pos.2);
+    Circle { x, y, r: (pos.1 + neg.1) * 0.5, p0: neg.2, p1: pos.2, along }
 }
 
 pub fn trial(section: &[f64], tol: f64, a: &Circle, b: &Circle) -> Option<Circle> {
@@ -398,6 +420,7 @@ pub fn extraction(section: &[f64], tol: f64, l: Line, slots: usize, limit: u32, 
     list.reverse();
     for c in list.iter_mut() {
         std::mem::swap(&mut c.p0, &mut c.p1);
+        c.along = (c.along.1, c.along.0);
     }
     list.pop();
     let back = Line { ox: l.ox, oy: l.oy, dx: -l.dx, dy: -l.dy };

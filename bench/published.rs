@@ -86,5 +86,5 @@ pub fn circle_at(n: &[f64]) -> Inscribed {
 
 pub fn circle_numbers(c: &Inscribed) -> [f64; crate::WIDTH] {
     let ([x, y], [p0x, p0y], [p1x, p1y]) = (c.c.center.coords.0, c.p0.coords.0, c.p1.coords.0);
-    [x, y, c.c.radius, p0x, p0y, p1x, p1y]
+    [x, y, c.c.radius, p0x, p0y, p1x, p1y, crate::UNKNOWN, crate::UNKNOWN]
 }

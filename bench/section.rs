@@ -1,5 +1,5 @@
 // The C interface beside engeom's published functions (where they were cut, `--cfg published`) and beside plain Rust of the same tests and steps, which watches no
-// value. All get the same sections and questions, in turn, round after round in one run, and must give the same bits; the least time counts. Stores are cleared, and
+// value. All get the same sections and questions, in turn, round after round in one run, and must give the same bits, but for the lengths along, which the published ones don't have; the least time counts. Stores are cleared, and
 // the circles of an edge fit put back, before each round and outside the time. The port and plain Rust make the entry tests of every call within it; the published
 // functions make none, and their curve is made beforehand but in the row `tests`, where that is what is timed.
 // `section` prints times; `section once` runs everything once through `counted`, for callgrind, and says in which order.
@@ -21,7 +21,9 @@ const T: f64 = 0.000001;
 const G: f64 = 0.01;
 const SLOTS: usize = 1024;
 // How many numbers a circle has.
-const WIDTH: usize = 7;
+const WIDTH: usize = 9;
+// Stands for a number that the published functions don't have: the lengths along.
+const UNKNOWN: f64 = f64::INFINITY;
 // A row is run this often at least, and for this long at least.
 const ROUNDS: usize = 25;
 const SECONDS: f64 = 0.6;
@@ -50,7 +52,8 @@ struct Left {
 
 impl Left {
     fn same(&self, other: &Left) -> bool {
-        self.units == other.units && self.numbers.len() == other.numbers.len() && self.numbers.iter().zip(&other.numbers).all(|(x, y)| x.to_bits() == y.to_bits())
+        let same = |(x, y): (&f64, &f64)| *x == UNKNOWN || x.to_bits() == y.to_bits();
+        self.units == other.units && self.numbers.len() == other.numbers.len() && self.numbers.iter().zip(&other.numbers).all(same)
     }
 }
 
@@ -288,11 +291,11 @@ fn store_of(circles: impl Iterator<Item = [f64; WIDTH]>) -> Vec<f64> {
 }
 
 fn plain_numbers(c: &Circle) -> [f64; WIDTH] {
-    [c.x, c.y, c.r, c.p0.0, c.p0.1, c.p1.0, c.p1.1]
+    [c.x, c.y, c.r, c.p0.0, c.p0.1, c.p1.0, c.p1.1, c.along.0, c.along.1]
 }
 
 fn plain_circle(n: &[f64]) -> Circle {
-    Circle { x: n[0], y: n[1], r: n[2], p0: (n[3], n[4]), p1: (n[5], n[6]) }
+    Circle { x: n[0], y: n[1], r: n[2], p0: (n[3], n[4]), p1: (n[5], n[6]), along: (n[7], n[8]) }
 }
 
 // A march, or an extraction where it is whole.

@@ -11,8 +11,9 @@
  * without one points to as many as its comment says. What is written overlaps nothing else that is handed in.
  *
  * Points are x, y, x, y and so on, in millimetres; a length counts numbers, not points. A line is an origin and a direction.
- * A circle is RUMMYTEAK_WIDTH numbers: centre x, y, radius, contact p0 x, y, contact p1 x, y. A store is a slice of
- * circles packed from its start; it holds its length / RUMMYTEAK_WIDTH, and at most RUMMYTEAK_SLOTS.
+ * A circle is RUMMYTEAK_WIDTH numbers: centre x, y, radius, contact p0 x, y, contact p1 x, y, and the lengths along of the
+ * section's nearest points to p0 and to p1. A store is a slice of circles packed from its start; it holds its length /
+ * RUMMYTEAK_WIDTH, and at most RUMMYTEAK_SLOTS.
  */
 #ifndef RUMMYTEAK_H
 #define RUMMYTEAK_H
@@ -26,7 +27,7 @@ extern "C" {
 #endif
 
 /* Numbers to a circle, and circles that a store holds at most. */
-#define RUMMYTEAK_WIDTH 7
+#define RUMMYTEAK_WIDTH 9
 #define RUMMYTEAK_SLOTS 1024
 /* Points of a section, and of what is cleaned or cut, at most. */
 #define RUMMYTEAK_POINTS 4096
@@ -38,7 +39,7 @@ enum rummyteak_ending {
     RUMMYTEAK_RESULT = 0,
     /* points: odd count of numbers, fewer than 2 points, or over 4,096 (cleaning and stretches: over 4,095) */
     RUMMYTEAK_POINT_COUNT = 1,
-    /* a number handed in isn't finite, lies beyond 1,000,000, or is a radius below zero */
+    /* a number handed in isn't finite, lies beyond 1,000,000, or is a radius or a circle's length along below zero */
     RUMMYTEAK_BAD_NUMBER = 2,
     /* section tolerance outside 0 to 1,000,000, or general tolerance outside 1e-6 to 1,000 */
     RUMMYTEAK_TOLERANCE = 3,
@@ -192,7 +193,7 @@ uint32_t rummyteak_average_spacing(const double *store, size_t store_len, size_t
 /* The clip line at the last circles: 4 numbers. */
 uint32_t rummyteak_end_clip_line(const double *store, size_t store_len, size_t count, double *line);
 
-/* Both contacts of each circle swapped, the order turned, or both. */
+/* Both contacts of each circle swapped with their lengths along, the order turned, or both. */
 uint32_t rummyteak_reverse_points(double *store, size_t store_len, size_t count);
 uint32_t rummyteak_reverse_order_only(double *store, size_t store_len, size_t count);
 uint32_t rummyteak_reverse_order(double *store, size_t store_len, size_t count);

@@ -328,7 +328,7 @@ fn any_circle(g: &mut Generator, s: &Shape) -> [f64; WIDTH] {
     let a = if g.one_in(2) { 0.0 } else { g.from(-0.6, 0.6) };
     let (cx, cy) = (s.ux * a.sin() + s.uy * a.cos(), s.uy * a.sin() - s.ux * a.cos());
     let k = g.sign() * r.max(s.wide * 0.01);
-    [x, y, r, x + cx * k, y + cy * k, x - cx * k, y - cy * k]
+    [x, y, r, x + cx * k, y + cy * k, x - cx * k, y - cy * k, s.long, 2.0 * s.long]
 }
 
 fn join(tolerances: [f64; 2], numbers: &[f64]) -> Vec<f64> {
@@ -479,7 +479,7 @@ fn made_up_fits(g: &mut Generator, s: &Shape, tol: f64, section: &[f64], tally: 
         for k in 0..count {
             let (x, y) = s.place(start + step * k as f64, off);
             let (cx, cy) = if square { (-gy, gx) } else { ((tilt * s.ux - s.uy) * s.wide, (tilt * s.uy + s.ux) * s.wide) };
-            store[WIDTH * k..][..WIDTH].copy_from_slice(&[x, y, s.wide, x - cx, y - cy, x + cx, y + cy]);
+            store[WIDTH * k..][..WIDTH].copy_from_slice(&[x, y, s.wide, x - cx, y - cy, x + cx, y + cy, 0.0, s.long]);
         }
         for front in [false, true] {
             tally.compare(Call::IsOpenAtEnd(count, front), section, &t, &store);

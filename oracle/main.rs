@@ -1,5 +1,5 @@
 // Runs the published functions of engeom, over the stand-ins of leaves.rs, and the proved functions on the same inputs of a fixed generator, and compares every
-// value, count and stored number by its bits. An input that the proved function refuses by a number which is no answer of the Rust is counted and not compared.
+// value, count and stored number by its bits. Lengths along of contacts, which no published circle has, are compared with the published `at_closest_to_point` and `length_along` of circles that a call made. An input that the proved function refuses by a number which is no answer of the Rust is counted and not compared.
 #![allow(dead_code)]
 mod inputs;
 mod interface;
@@ -9,7 +9,7 @@ mod sample;
 
 use AngleDir::Ccw;
 use leaves::*;
-use port::{Call, REST, WIDTH};
+use port::{Call, PUBLISHED, REST, WIDTH};
 use std::collections::BTreeMap;
 use std::error::Error;
 use std::fmt::{Display, Formatter};
@@ -29,23 +29,25 @@ struct Wanted {
     numbers: Vec<f64>,
     // The circles in use afterwards, where there is a store.
     circles: Option<Vec<Inscribed>>,
+    // The lengths along of the contacts of the circles, in the numbers or in use, where all of them were made; those of circles handed in are no answer of the Rust.
+    lengths: Vec<[f64; 2]>,
 }
 
 impl Wanted {
     fn none(number: u64) -> Self {
-        Wanted { number, edges: None, words: vec![], numbers: vec![], circles: None }
+        Wanted { number, edges: None, words: vec![], numbers: vec![], circles: None, lengths: vec![] }
     }
 
     fn value(words: Vec<u64>, numbers: Vec<f64>) -> Self {
-        Wanted { number: 0, edges: None, words, numbers, circles: None }
+        Wanted { number: 0, edges: None, words, numbers, circles: None, lengths: vec![] }
     }
 
     fn run(circles: Vec<Inscribed>, units: u64, numbers: Vec<f64>) -> Self {
-        Wanted { number: 0, edges: None, words: vec![circles.len() as u64, units], numbers, circles: Some(circles) }
+        Wanted { number: 0, edges: None, words: vec![circles.len() as u64, units], numbers, circles: Some(circles), lengths: vec![] }
     }
 
     fn list(circles: Vec<Inscribed>, words: Vec<u64>) -> Self {
-        Wanted { number: 0, edges: None, words, numbers: vec![], circles: Some(circles) }
+        Wanted { number: 0, edges: None, words, numbers: vec![], circles: Some(circles), lengths: vec![] }
     }
 }
 
@@ -98,6 +100,22 @@ fn circle_at(n: &[f64]) -> Inscribed {
 
 fn circle_numbers(c: &Inscribed) -> Vec<f64> {
     [&c.c.center.coords.0[..], &[c.c.radius], &c.p0.coords.0, &c.p1.coords.0].concat()
+}
+
+// The lengths along of the curve's nearest points to both contacts.
+fn lengths_of(curve: &Curve2, c: &Inscribed) -> [f64; 2] {
+    [c.p0, c.p1].map(|p| curve.at_closest_to_point(&p).length_along())
+}
+
+// What is wanted of circles that were all made on the curve: their lengths along too.
+fn made_on(curve: &Curve2, want: Wanted) -> Wanted {
+    let lengths: Vec<[f64; 2]> = match &want.circles {
+        Some(circles) => circles.iter().map(|c| lengths_of(curve, c)).collect(),
+        None => want.numbers.chunks_exact(PUBLISHED).map(|n| lengths_of(curve, &circle_at(n))).collect(),
+    };
+    // This is run and not proved.
+    assert!(lengths.iter().flatten().all(|l| *l <= curve.length()), "a length along above the whole");
+    Wanted { lengths, ..want }
 }
 
 fn circles_of(store: &[f64], count: usize) -> Vec<Inscribed> {
@@ -231,16 +249,16 @@ fn wanted(call: Call, section: &[f64], args: &[f64], store: &[f64]) -> Wanted {
         Call::SplitClosed => split(&curve, curve.split_closed_at_lengths(args[2], args[3]), [args[2], args[3]], [args[3], args[2]]),
         Call::Closest => station_answer(curve.at_closest_to_point(&Point2::new(args[2], args[3]))),
         Call::CrossingLine => crossed(input.crossing_line(&line_at(&args[2..])).map_or(Wanted::none(8), |l| Wanted::value(vec![], line_numbers(l)))),
-        Call::FromCrossing => circle_answer(Some(input.inscribed_from_crossing(&line_at(&args[2..]))), 0),
-        Call::TryInscribed => crossed(circle_answer(input.try_inscribed(&line_at(&args[2..])), 8)),
-        Call::Refined => circle_answer(input.inscribed_refined(&circle_at(&args[2..]), &circle_at(&args[2 + WIDTH..])), 99),
+        Call::FromCrossing => made_on(&curve, circle_answer(Some(input.inscribed_from_crossing(&line_at(&args[2..]))), 0)),
+        Call::TryInscribed => made_on(&curve, crossed(circle_answer(input.try_inscribed(&line_at(&args[2..])), 8))),
+        Call::Refined => made_on(&curve, circle_answer(input.inscribed_refined(&circle_at(&args[2..]), &circle_at(&args[2 + WIDTH..])), 99)),
         Call::RefineAndPush(count) => {
             let mut list = InscribedVec::new(circles_of(store, count));
             list.refine_and_push(circle_at(&args[2..]), &input);
             Wanted::run(list.take_vec(), units(0), vec![])
         }
-        Call::March => crossed(or_number(march(&input, &line_at(&args[2..])))),
-        Call::Extract => or_number(extraction(&input, &line_at(&args[2..]))),
+        Call::March => made_on(&curve, crossed(or_number(march(&input, &line_at(&args[2..]))))),
+        Call::Extract => made_on(&curve, or_number(extraction(&input, &line_at(&args[2..])))),
         Call::FitOpenEdge(count, front) => or_number(
             fit_open_edge(&input, circles_of(store, count), front).map(|fit| Wanted::run(fit.circles, units(0), point(fit.edge.point))),
         ),
@@ -322,6 +340,12 @@ fn same(a: &[f64], b: &[f64]) -> bool {
     a.len() == b.len() && a.iter().zip(b).all(|(x, y)| x.to_bits() == y.to_bits())
 }
 
+// The circles of the published functions in the port's width, with the lengths along that are wanted, or where none are, those that the port has.
+fn with_lengths(numbers: &[f64], lengths: &[[f64; 2]], got: &[f64]) -> Vec<f64> {
+    let along = |i: usize| lengths.get(i).map_or(&got[WIDTH * i + PUBLISHED..WIDTH * (i + 1)], |l| &l[..]);
+    numbers.chunks_exact(PUBLISHED).enumerate().flat_map(|(i, c)| [c, along(i)].concat()).collect()
+}
+
 // Where the port's answer differs from what is wanted.
 fn difference(call: Call, got: &port::Answer, want: &Wanted, store: &[f64]) -> Option<String> {
     if got.told[0] != want.number {
@@ -339,16 +363,17 @@ fn difference(call: Call, got: &port::Answer, want: &Wanted, store: &[f64]) -> O
     if got.told[1..1 + want.words.len()] != want.words {
         return Some(format!("words {:?} wanted {:?}", got.told, want.words));
     }
-    let mut out = want.numbers.clone();
+    let is_circle = matches!(call, Call::FromCrossing | Call::TryInscribed | Call::Refined | Call::FrontAndBack(_));
+    let mut out = if is_circle { with_lengths(&want.numbers, &want.lengths, &got.out) } else { want.numbers.clone() };
     out.resize(got.out.len(), REST);
     if !same(&got.out, &out) {
         return Some(format!("numbers {:?} wanted {:?}", &got.out[..want.numbers.len().min(got.out.len())], want.numbers));
     }
     let mut after = store.to_vec();
     if let Some(circles) = &want.circles {
-        for (i, c) in circles.iter().enumerate() {
-            after[WIDTH * i..][..WIDTH].copy_from_slice(&circle_numbers(c));
-        }
+        let numbers: Vec<f64> = circles.iter().flat_map(circle_numbers).collect();
+        let used = with_lengths(&numbers, &want.lengths, &got.store);
+        after[..used.len()].copy_from_slice(&used);
     }
     if same(&got.store, &after) { None } else { Some("store differs".into()) }
 }

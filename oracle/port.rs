@@ -1,8 +1,9 @@
 // The proved functions, by the C interface (include/rummyteak.h). Each call gives the words told and the numbers put out.
 use crate::interface::*;
 
-// How many numbers a circle has, and how many circles a store holds.
-pub const WIDTH: usize = 7;
+// How many numbers a circle has, how many of them the published functions have (all but the lengths along), and how many circles a store holds.
+pub const WIDTH: usize = 9;
+pub const PUBLISHED: usize = WIDTH - 2;
 pub const SLOTS: usize = 1024;
 const NO_LIMIT: u32 = u32::MAX;
 

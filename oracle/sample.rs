@@ -1,6 +1,6 @@
 // The sample that crates/cases replays: inputs from one seed each, and the checksums of the published functions' answers to them.
 // The steps of `section` and `args` are those of crates/cases/src/samples/inputs.rt, number for number.
-use crate::port::{Call, WIDTH};
+use crate::port::{Call, PUBLISHED, WIDTH};
 use crate::{Wanted, circle_numbers, is_added, port, wanted};
 
 const KINDS: u64 = 15;
@@ -58,6 +58,8 @@ fn args(seed: u64) -> [f64; 2 + 2 * WIDTH] {
         -1.0,
         grain(w1),
         1.0 + grain(w2),
+        grain(w3),
+        grain(w4),
         2.0 + grain(w5) * 8.0,
         grain(w4) - 0.5,
         grain(w3),
@@ -65,6 +67,8 @@ fn args(seed: u64) -> [f64; 2 + 2 * WIDTH] {
         -0.5 - grain(w5),
         grain(w2),
         1.0,
+        grain(w5),
+        grain(w1),
     ]
 }
 
@@ -93,7 +97,7 @@ impl Left {
         self.told[1..1 + words.len()].copy_from_slice(&words);
         self.out[..numbers.len()].copy_from_slice(&numbers);
         for (i, c) in circles.into_iter().flatten().enumerate() {
-            self.store[WIDTH * i..][..WIDTH].copy_from_slice(&circle_numbers(&c));
+            self.store[WIDTH * i..][..PUBLISHED].copy_from_slice(&circle_numbers(&c));
         }
         Some(())
     }
@@ -104,7 +108,8 @@ impl Left {
             return sum;
         }
         let sum = mixed(mixed(sum, self.told[1]), self.told[2]);
-        self.out.iter().chain(&self.store).fold(sum, |s, x| mixed(s, x.to_bits()))
+        let circles = self.store.chunks_exact(WIDTH).flat_map(|c| &c[..PUBLISHED]);
+        self.out.iter().chain(circles).fold(sum, |s, x| mixed(s, x.to_bits()))
     }
 }
 

@@ -106,7 +106,7 @@ static const double R[] = {0, 0, 8, 0, 8, 2, 0, 2, 0, 0};
 static const double T = 0.001, G = 0.01;
 
 /* Circles at (4,1) and (5,1), radius 1, contacts straight below and above. */
-static const double PAIR[] = {4, 1, 1, 4, 0, 4, 2, 5, 1, 1, 5, 0, 5, 2};
+static const double PAIR[] = {4, 1, 1, 4, 0, 4, 2, 4, 14, 5, 1, 1, 5, 0, 5, 2, 5, 13};
 
 static void roots(void)
 {
@@ -219,7 +219,7 @@ static void stretches(void)
 
 static void circles(void)
 {
-    const double want[] = {4, 1.00048828125, 0.99951171875, 4, 0, 4, 2};
+    const double want[] = {4, 1.00048828125, 0.99951171875, 4, 0, 4, 2, 4, 14};
     double *r = copy(R, RLEN), *c = marked(W), *a = copy(PAIR, W), *b = copy(PAIR + W, W);
     bool added = true;
     size_t edges[2] = {77, 77};
@@ -233,6 +233,13 @@ static void circles(void)
     EXPECT(rummyteak_inscribed_refined(r, RLEN, T, G, a, b, c, &added) == 0 && !added && untouched(c, 0, W));
     a[2] = -1, added = true;
     EXPECT(rummyteak_inscribed_refined(r, RLEN, T, G, a, b, c, &added) == 2 && added && untouched(c, 0, W));
+    a[2] = -0.0, a[7] = -0.0, a[8] = -0.0;
+    EXPECT(rummyteak_inscribed_refined(r, RLEN, T, G, a, b, c, &added) == 0);
+    a[8] = -1, added = true;
+    EXPECT(rummyteak_inscribed_refined(r, RLEN, T, G, a, b, c, &added) == 2 && added);
+    a[8] = 0, b[7] = INFINITY;
+    EXPECT(rummyteak_inscribed_refined(r, RLEN, T, G, a, b, c, &added) == 2 && added);
+    EXPECT(rummyteak_inscribed_from_crossing(r, RLEN, T, 1000, 1e160, 0, 1, 0, c) == 12);
     release(r), release(c), release(a), release(b);
 }
 
@@ -306,7 +313,7 @@ static void lists(void)
     EXPECT(rummyteak_circles_from(store, 2 * W, 2, 2, &first, &numbers) == 0 && numbers == 0);
     first = numbers = 77;
     EXPECT(rummyteak_circles_from(store, 2 * W, 2, 3, &first, &numbers) == 4 && first == 77 && numbers == 77);
-    EXPECT(rummyteak_reverse_points(store, 2 * W, 2) == 0 && store[4] == 2 && store[6] == 0);
+    EXPECT(rummyteak_reverse_points(store, 2 * W, 2) == 0 && store[4] == 2 && store[6] == 0 && store[7] == 14 && store[8] == 4);
     EXPECT(rummyteak_reverse_order(store, 2 * W, 2) == 0 && same(store, PAIR + W, W));
     EXPECT(rummyteak_reverse_order_only(store, 2 * W, 2) == 0 && same(store, PAIR, 2 * W));
     EXPECT(rummyteak_reverse_order_only(store, 2 * W, 9) == 4 && same(store, PAIR, 2 * W));
@@ -336,7 +343,7 @@ static void orientation(void)
 {
     double *store = copy(PAIR, 2 * W);
     bool yes = false;
-    EXPECT(rummyteak_orient_lower(1, 0, store, 2 * W, 2, &yes) == 0 && yes && store[4] == 2);
+    EXPECT(rummyteak_orient_lower(1, 0, store, 2 * W, 2, &yes) == 0 && yes && store[4] == 2 && store[7] == 14);
     EXPECT(rummyteak_orient_upper(0, -1, store, 2 * W, 2, &yes) == 0 && !yes && store[4] == 2);
     EXPECT(rummyteak_orient_upper(0, 1, store, 2 * W, 2, &yes) == 0 && yes && same(store, PAIR, 2 * W));
     EXPECT(rummyteak_orient_fwd(1, 0, store, 2 * W, 2, &yes) == 0 && yes && store[0] == 5);
@@ -361,7 +368,7 @@ static void orientation(void)
 
 static void edges(void)
 {
-    const double three[] = {2, 1.00048828125, 0.99951171875, 2, 0, 2, 2};
+    const double three[] = {2, 1.00048828125, 0.99951171875, 2, 0, 2, 2, 2, 16};
     double *r = copy(R, ULEN), *closed = copy(R, RLEN), *store = marked(3 * W), *point = marked(2);
     size_t count = 77;
     uint32_t units = 77;

@@ -197,7 +197,7 @@ class Table:
         flat = []
         for k in range(whole(words, 1)):
             x = 1 + k / 256
-            flat += rt.Inscribed(x, 1.00048828125, 0.99951171875, x, 0.0, x, 2.0)
+            flat += rt.Inscribed(x, 1.00048828125, 0.99951171875, x, 0.0, x, 2.0, x, 18.0 - x)
         self.store[: len(flat)] = flat
 
     def do_ask(self, words):

@@ -29,8 +29,8 @@ from rummyteak.report import ADVICE  # noqa: E402
 R = [0, 0, 8, 0, 8, 2, 0, 2, 0, 0]
 U = R[:8]
 T, G = 0.001, 0.01
-PAIR = (rt.Inscribed(4, 1, 1, 4, 0, 4, 2), rt.Inscribed(5, 1, 1, 5, 0, 5, 2))
-UNIT = rt.Inscribed(4, 1.00048828125, 0.99951171875, 4, 0, 4, 2)
+PAIR = (rt.Inscribed(4, 1, 1, 4, 0, 4, 2, 4, 14), rt.Inscribed(5, 1, 1, 5, 0, 5, 2, 5, 13))
+UNIT = rt.Inscribed(4, 1.00048828125, 0.99951171875, 4, 0, 4, 2, 4, 14)
 
 
 def bits(x: float) -> int:
@@ -95,10 +95,15 @@ class Rows(unittest.TestCase):
         self.assertEqual(rt.inscribed_from_crossing(R, T, G, (4, 0, 0, 2)), UNIT)
         self.assertEqual(rt.try_inscribed(R, T, G, (4, 1, 0, 1)), rt.CircleOnLine(UNIT, (0, 2)))
         self.assertIsNone(rt.inscribed_refined(R, T, G, *PAIR))
+        self.refused(2, rt.inscribed_refined, R, T, G, PAIR[0]._replace(l1=-1), PAIR[1])
+        self.assertIsNone(rt.inscribed_refined(R, T, G, PAIR[0]._replace(l0=-0.0), PAIR[1]))
+        self.refused(12, rt.inscribed_from_crossing, R, T, 1000, (1e160, 0, 1, 0))
+        again = rt.try_inscribed((0, 0, 4, 0, 3, 1, 0, 0), T, G, (1, 0.1, 0, 1)).circle
+        self.assertEqual(again.l1.hex(), "0x1.e4e2bb224d2acp+2")
         self.refused(3, rt.try_inscribed, R, T, 1e-7, (4, 1, 0, 1))
 
     def test_lists(self):
-        radii = [rt.Inscribed(x, 1, r, x, 0, x, 2) for x, r in ((1, 1), (2, 3), (4, 3), (5, 2))]
+        radii = [rt.Inscribed(x, 1, r, x, 0, x, 2, x, 18 - x) for x, r in ((1, 1), (2, 3), (4, 3), (5, 2))]
         self.assertEqual(rt.index_of_tmax(radii), 2)
         self.assertEqual(rt.front_and_back(PAIR), PAIR)
         self.assertEqual(rt.average_spacing(PAIR), 1)
@@ -129,7 +134,7 @@ class Rows(unittest.TestCase):
         self.assertTrue(rt.is_open_at_end(U, T, G, PAIR, True))
         fit = rt.fit_open_edge(U, T, G, PAIR, True, 1, 3)
         self.assertEqual((fit.number, fit.point, fit.units), (0, (0, 1.00048828125), 1))
-        self.assertEqual([c.cx for c in fit.circles], [2, 4, 5])
+        self.assertEqual([(c.cx, c.l0, c.l1) for c in fit.circles], [(2, 2, 16), (4, 4, 14), (5, 5, 13)])
         self.assertEqual(rt.fit_open_edge(U, T, G, PAIR, False, 1, 3).number, 20)
         spent = rt.fit_open_edge(U, T, G, PAIR, True, 0, 3)
         self.assertEqual((spent.number, spent.circles, spent.units), (14, PAIR, 0))
@@ -213,7 +218,7 @@ class Types(unittest.TestCase):
 
     def test_records(self):
         self.assertEqual(rt.WIDTH, len(UNIT))
-        self.assertEqual((UNIT.center, UNIT.radius, UNIT.p0, UNIT.p1), ((4, 1.00048828125), 0.99951171875, (4, 0), (4, 2)))
+        self.assertEqual((UNIT.center, UNIT.radius, UNIT.p0, UNIT.p1, UNIT.l0, UNIT.l1), ((4, 1.00048828125), 0.99951171875, (4, 0), (4, 2), 4, 14))
         run = rt.march(R, T, G, (4, 1, 0, 1), 3)
         self.assertEqual((run.number, run.ending), (14, rt.WORDS[14]))
         self.assertEqual(pickle.loads(pickle.dumps(run)), run)

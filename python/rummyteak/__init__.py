@@ -91,7 +91,7 @@ class Crossing:
 
 
 class Inscribed(NamedTuple):
-    """An inscribed circle: centre, radius and both contacts, in stored order."""
+    """An inscribed circle: centre, radius, both contacts, and the lengths along of the section's nearest points to them, in stored order."""
 
     cx: float
     cy: float
@@ -100,6 +100,8 @@ class Inscribed(NamedTuple):
     p0y: float
     p1x: float
     p1y: float
+    l0: float
+    l1: float
 
     @property
     def center(self) -> Tuple[float, float]:

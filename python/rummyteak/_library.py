@@ -16,7 +16,7 @@ NO_LIMIT = 2**32 - 1
 WORDS = {
     0: "a result",
     1: "odd count of numbers, fewer than 2 points, or too many",
-    2: "a number isn't finite, lies beyond 1,000,000, or is a radius below zero",
+    2: "a number isn't finite, lies beyond 1,000,000, or is a radius or a circle's length along below zero",
     3: "a tolerance is out of its range",
     4: "a stated count, a place or an output doesn't fit",
     5: "cleaning leaves fewer than two points",

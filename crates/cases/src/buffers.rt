@@ -130,6 +130,7 @@ fn put_upright(numbers: &mut [f64], at: usize, x: f64) {
     circle[2] = 0.99951171875;
     circle[4] = 0.0;
     circle[6] = 2.0;
+    circle[8] = 18.0 - x;
     if at < 100_000 {
         copy_to(numbers, at as u32, &circle);
     }

@@ -1,5 +1,6 @@
 // Inputs from a seed each, and checksums of answers: of a sample that engeom's published functions answered in oracle/, and of square roots that the processor worked out.
 use crate::bits;
+use inscribed::store::WIDTH;
 
 pub(crate) mod inputs;
 
@@ -21,6 +22,22 @@ fn mixed_numbers(sum: u64, numbers: &[f64]) -> u64 {
     s
 }
 
+// How many of a circle's numbers the published functions have: all but the lengths along.
+pub(crate) const PUBLISHED: usize = WIDTH - 2;
+
+// The same for a store, by those numbers of its circles that the published functions have.
+fn mixed_circles(sum: u64, store: &[f64]) -> u64 {
+    let mut s = sum;
+    let mut i: usize = 0;
+    while i < store.len() {
+        if i % WIDTH < PUBLISHED {
+            s = mixed(s, bits::pattern(store[i]));
+        }
+        i += 1;
+    }
+    s
+}
+
 // The checksum of an answer: its words, its numbers and the store, or the refusal's number alone.
 pub(crate) fn checksum_of(told: &[u64; 3], out: &[f64], store: &[f64]) -> u64 {
     let number = told[0];
@@ -30,7 +47,7 @@ pub(crate) fn checksum_of(told: &[u64; 3], out: &[f64], store: &[f64]) -> u64 {
     }
     let sum = mixed(sum, told[1]);
     let sum = mixed(sum, told[2]);
-    mixed_numbers(mixed_numbers(sum, out), store)
+    mixed_circles(mixed_numbers(sum, out), store)
 }
 
 // The root of x asked for directly: its bits, or the number of its refusal.

@@ -22,12 +22,12 @@ use Rattle.halving.proofs.Dyadic.{dyadic, one-is-dyadic, zero-is-dyadic
 
 -- ---- a halving puts the middle in the place of one of the fractions
 
-record Given {A B : Type 0} (a : Answer A) (f : A → Answer B) (b : B) : Type 0 where
-  value : A
-  is : a ≡ result value
-  gives : f value ≡ result b
+pub record Given {A B : Type 0} (a : Answer A) (f : A → Answer B) (b : B) : Type 0 where
+  pub value : A
+  pub is : a ≡ result value
+  pub gives : f value ≡ result b
 
-given : {A B : Type 0} (a : Answer A) (f : A → Answer B) (b : B) → (a >>= f) ≡ result b → Given a f b
+pub given : {A B : Type 0} (a : Answer A) (f : A → Answer B) (b : B) → (a >>= f) ≡ result b → Given a f b
 given (result x) f b e = record { value = x; is = refl; gives = e }
 given (refusal n) f b e = let z : _≡_ {A = ℕ} 0 1 = cc in absurd (omega arith)
 
@@ -103,7 +103,7 @@ module _ (ns : List Float) (l : Line2) (resolve len : Float) (short : lt resolve
   over zero k (suc extra) e s n = rw (zero-add (suc extra), narrow-after k e (omega arith) n)
   over (suc j) k extra e s n =
       rw (suc-add j extra)
-      (ap (λ (z : Answer Inscribed). cond (isWide resolve len e) z (circleBetween l e))
+      (ap (λ (z : Answer Inscribed). cond (isWide resolve len e) z (circleBetween ns l e))
       (alike (halved ns l e) (λ next. halving ns l resolve len (j + extra) next) (λ next. halving ns l resolve len j next)
       (λ next h. over j (suc k) extra next (omega arith) (next-neighbours ns l k e next (omega arith) n h))))
 
@@ -114,7 +114,7 @@ module _ (ns : List Float) (l : Line2) (resolve len : Float) (short : lt resolve
 
   step : (j : ℕ) (e : SearchEnds) → ((next : SearchEnds) → halved ns l e ≡ result next → SourceLoop ns l resolve len next (halving ns l resolve len j next))
       → (b : Bool) → isWide resolve len e ≡ b → (a : Answer SearchEnds) → halved ns l e ≡ a
-      → SourceLoop ns l resolve len e (cond b (a >>= λ next. halving ns l resolve len j next) (circleBetween l e))
+      → SourceLoop ns l resolve len e (cond b (a >>= λ next. halving ns l resolve len j next) (circleBetween ns l e))
   step j e ih false p a q = stops e p
   step j e ih true p (refusal m) q = refuses e m p q
   step j e ih true p (result next) q = goes e next (halving ns l resolve len j next) p q (ih next q)

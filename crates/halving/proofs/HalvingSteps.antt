@@ -19,7 +19,7 @@ module _ (ns : List Float) (l : Line2) (resolve len : Float) (left : ℕ) (e : S
     one-more : left ≡ suc (left - 1)
     one-more = omega arith
 
-    pub narrow : isWide resolve len e ≡ false → circleBetween l e ≡ whole
+    pub narrow : isWide resolve len e ≡ false → circleBetween ns l e ≡ whole
     unfolding halving
     narrow p = rw (one-more, p) at inv
 
@@ -32,6 +32,6 @@ module _ (ns : List Float) (l : Line2) (resolve len : Float) (left : ℕ) (e : S
       unfolding halving
       halving-on pos neg p = rw (one-more, wide, ← (rw p at is)) at inv
 
-  pub spent : left ≡ 0 → circleBetween l e ≡ whole
+  pub spent : left ≡ 0 → circleBetween ns l e ≡ whole
   unfolding halving
   spent p = rw p at inv

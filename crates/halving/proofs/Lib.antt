@@ -2,3 +2,4 @@
 pub mod Dyadic
 pub mod HalvingLaws
 pub mod HalvingSteps
+pub mod MadeLaws

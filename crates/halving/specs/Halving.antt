@@ -12,6 +12,7 @@ use Rattle.points.specs.declared.Vector2.{Vector2}
 use Rattle.line2.specs.Lines.{atParam}
 use Rattle.line2.specs.declared.Line2.{Line2}
 use Rattle.queries.specs.Nearest.{nearestOf}
+use Rattle.sections.specs.Places.{closestLengths}
 use Rattle.inscribed.specs.Circles.{inscribed}
 use Rattle.inscribed.specs.declared.Inscribed.{Inscribed}
 use Rattle.halving.specs.declared.bisection.InscribedEnd.{InscribedEnd}
@@ -45,9 +46,13 @@ halved ns l e =
     nearestOf ns working >>= λ closest.
     movedEnds (l .direction) e fraction working (closest .at .point)
 
--- the circle between the last two ends
-unfoldable pub circleBetween : Line2 → SearchEnds → Answer Inscribed
-circleBetween l e = atParam l ((e .pos .f +f e .neg .f) *f f½) >>= λ o. result (inscribed o ((e .pos .d +f e .neg .d) *f f½) (e .neg .p) (e .pos .p))
+-- The circle between the last two ends; 02 (f): its contacts' lengths along "are worked out when the circle is made", anew from the finished contacts.
+unfoldable pub circleBetween : List Float → Line2 → SearchEnds → Answer Inscribed
+unfolding closestLengths
+circleBetween ns l e =
+    atParam l ((e .pos .f +f e .neg .f) *f f½) >>= λ o.
+    closestLengths ns (e .neg .p) (e .pos .p) >>= λ along.
+    result (inscribed o ((e .pos .d +f e .neg .d) *f f½) (e .neg .p) (e .pos .p) (along .first) (along .second))
 
 -- the test of the source's loop: the part of the line between the ends is longer than the resolve tolerance
 abbrev pub isWide : Float → Float → SearchEnds → Bool
@@ -56,10 +61,10 @@ isWide resolve len e = lt resolve ((e .pos .f -f e .neg .f) *f len)
 -- The source's loop, with as much fuel as one likes. `halving-over` proves that 52 are enough: any more gives the same, and the loop's own test has ended it.
 unfoldable pub halving : List Float → Line2 → Float → Float → ℕ → SearchEnds → Answer Inscribed
 unfolding halved circleBetween
-halving ns l resolve len zero e = circleBetween l e
+halving ns l resolve len zero e = circleBetween ns l e
 halving ns l resolve len (suc fuel) e =
     let on = halved ns l e >>= λ next. halving ns l resolve len fuel next in
-    cond (isWide resolve len e) on (circleBetween l e)
+    cond (isWide resolve len e) on (circleBetween ns l e)
 
 -- "within 52 steps"
 abbrev pub mostHalvings : ℕ

@@ -11,6 +11,6 @@ use Rattle.halving.specs.Halving.{SearchEnds, halved, circleBetween, isW
 
 -- `while` the ends are wide apart, halve; then the circle between them
 pub data SourceLoop (ns : List Float) (l : Line2) (resolve len : Float) : SearchEnds → Answer Inscribed → Type 0 where
-  stops : (e : SearchEnds) → isWide resolve len e ≡ false → SourceLoop ns l resolve len e (circleBetween l e)
+  stops : (e : SearchEnds) → isWide resolve len e ≡ false → SourceLoop ns l resolve len e (circleBetween ns l e)
   refuses : (e : SearchEnds) (n : Refusal) → isWide resolve len e ≡ true → halved ns l e ≡ refusal n → SourceLoop ns l resolve len e (refusal n)
   goes : (e next : SearchEnds) (a : Answer Inscribed) → isWide resolve len e ≡ true → halved ns l e ≡ result next → SourceLoop ns l resolve len next a → SourceLoop ns l resolve len e a

@@ -8,6 +8,7 @@ use points::Point2;
 use points::PointAnswer;
 use points::Vector2;
 use queries::NearestAnswer;
+use sections::LengthPairAnswer;
 ghost use mathlib.Core.Path.{_≡_};
 ghost use Rattle.curve2.specs.Entry.{HasPoints};
 ghost use Rattle.inscribed.specs.Circles.{listedInscribed};
@@ -87,9 +88,15 @@ fn halved(section: &[f64], line: Line2, pos: InscribedEnd, neg: InscribedEnd) ->
     }
 }
 
-// The circle between the last two ends.
-fn circle_between(line: Line2, pos: InscribedEnd, neg: InscribedEnd) -> InscribedAnswer
-    ensures { λ r. ⌜ listedInscribed r ≡ circleBetween line (endsOf pos neg) ⌝ }
+// The circle between the last two ends, with its contacts' lengths along.
+fn circle_between(
+    section: &[f64],
+    line: Line2,
+    pos: InscribedEnd,
+    neg: InscribedEnd,
+) -> InscribedAnswer
+    requires { ⌜ HasPoints (now section) ⌝ }
+    ensures { λ r. ⌜ listedInscribed r ≡ circleBetween (now (section .entry)) line (endsOf pos neg) ⌝ }
 {
     let upper = pos.f;
     let lower = neg.f;
@@ -102,20 +109,27 @@ fn circle_between(line: Line2, pos: InscribedEnd, neg: InscribedEnd) -> Inscribe
     let p1x = q.x;
     let p1y = q.y;
     match line.at((upper + lower) * 0.5) {
-        PointAnswer::Value(o) => {
-            let cx = o.x;
-            let cy = o.y;
-            let r = (upper_d + lower_d) * 0.5;
-            InscribedAnswer::Value(Inscribed {
-                cx,
-                cy,
-                r,
-                p0x,
-                p0y,
-                p1x,
-                p1y,
-            })
-        }
+        PointAnswer::Value(o) => match sections::checked::closest_lengths(section, p, q) {
+            LengthPairAnswer::Value(along) => {
+                let cx = o.x;
+                let cy = o.y;
+                let r = (upper_d + lower_d) * 0.5;
+                let l0 = along.first;
+                let l1 = along.second;
+                InscribedAnswer::Value(Inscribed {
+                    cx,
+                    cy,
+                    r,
+                    p0x,
+                    p0y,
+                    p1x,
+                    p1y,
+                    l0,
+                    l1,
+                })
+            }
+            LengthPairAnswer::Refused(r) => InscribedAnswer::Refused(r),
+        },
         PointAnswer::Refused(r) => InscribedAnswer::Refused(r),
     }
 }
@@ -146,7 +160,7 @@ pub(crate) fn halving_loop(
     let mut left: usize = 52;
     while left > 0 {
         if !is_wide(resolve, len, upper, lower) {
-            return circle_between(line, upper, lower);
+            return circle_between(section, line, upper, lower);
         }
         match halved(section, line, upper, lower) {
             EndsAnswer::Value(p, n) => {
@@ -159,5 +173,5 @@ pub(crate) fn halving_loop(
         }
         left -= 1;
     }
-    circle_between(line, upper, lower)
+    circle_between(section, line, upper, lower)
 }

@@ -3,7 +3,7 @@ use mathlib.Core.Path.{_≡_, refl, sym, ap, _∙_}
 use mathlib.Core.Bool.{Bool, true, false, _||_, cond}
 use mathlib.Core.List.{List, [], _∷_, _++_, append-assoc, append-nil}
 use Prim.Native.Nat.{ℕ, zero, suc, _+_, _-_, _*_, _≤_, _<_, min}
-use native.Mathlib.Numerals.{add-one, add-two, add-three, add-four, add-five, add-six}
+use native.Mathlib.Numerals.{add-one, add-two, add-three, add-four, add-five, add-six, add-seven, add-eight}
 use native.Mathlib.Nat.{add-zero}
 use native.Mathlib.Omega.{arith}
 use borrow.Author.Tests.{ltb-false}
@@ -46,7 +46,7 @@ length-circles ns k (suc n) = ap suc (length-circles ns (suc k) n)
 -- equal numbers are the same circle
 same-circle : (ns ms : List Float) (i j : ℕ) → ((t : ℕ) → getD ns (i + t) nan ≡ getD ms (j + t) nan) → circleFrom ns i ≡ circleFrom ms j
 unfolding circleFrom
-same-circle ns ms i j h = rw (rw (add-zero i, add-zero j) at (h 0), h 1, h 2, h 3, h 4, h 5, h 6)
+same-circle ns ms i j h = rw (rw (add-zero i, add-zero j) at (h 0), h 1, h 2, h 3, h 4, h 5, h 6, h 7, h 8)
 
 -- behind a circle's numbers
 after-circle : (c : Inscribed) (ns : List Float) (k : ℕ) → circleAt (numbersOf c ++ ns) (suc k) ≡ circleAt ns k
@@ -87,7 +87,7 @@ numbers-at : (ns : List Float) (i : ℕ) → i + width ≤ length ns → numbers
 unfolding numbersOf circleFrom
 numbers-at ns i h =
     rw
-    (add-one i, add-two i, add-three i, add-four i, add-five i, add-six i, drop-cons ns i nan (omega arith), drop-cons ns (suc i) nan (omega arith), drop-cons ns (suc (suc i)) nan (omega arith), drop-cons ns (suc (suc (suc i))) nan (omega arith), drop-cons ns (suc (suc (suc (suc i)))) nan (omega arith), drop-cons ns (suc (suc (suc (suc (suc i))))) nan (omega arith), drop-cons ns (suc (suc (suc (suc (suc (suc i)))))) nan (omega arith))
+    (add-one i, add-two i, add-three i, add-four i, add-five i, add-six i, add-seven i, add-eight i, drop-cons ns i nan (omega arith), drop-cons ns (suc i) nan (omega arith), drop-cons ns (suc (suc i)) nan (omega arith), drop-cons ns (suc (suc (suc i))) nan (omega arith), drop-cons ns (suc (suc (suc (suc i)))) nan (omega arith), drop-cons ns (suc (suc (suc (suc (suc i))))) nan (omega arith), drop-cons ns (suc (suc (suc (suc (suc (suc i)))))) nan (omega arith), drop-cons ns (suc (suc (suc (suc (suc (suc (suc i))))))) nan (omega arith), drop-cons ns (suc (suc (suc (suc (suc (suc (suc (suc i)))))))) nan (omega arith))
 
 pub numbers-from : (ns : List Float) (k n : ℕ) → (k + n) * width ≤ length ns → allNumbers (circlesFrom ns k n) ≡ take (width * n) (drop (k * width) ns)
 unfolding circlesFrom allNumbers
@@ -126,12 +126,12 @@ unfolding stored
 circles-of-stored cs old = circles-stored cs (drop (width * length cs) old)
 
 pub circle-sets : (ns : List Float) (k : ℕ) (c : Inscribed) → (k + 1) * width ≤ length ns
-    → set (set (set (set (set (set (set ns (k * width) (c .cx)) (k * width + 1) (c .cy)) (k * width + 2) (c .r)) (k * width + 3) (c .p0x)) (k * width + 4) (c .p0y)) (k * width + 5) (c .p1x)) (k * width + 6) (c .p1y)
+    → set (set (set (set (set (set (set (set (set ns (k * width) (c .cx)) (k * width + 1) (c .cy)) (k * width + 2) (c .r)) (k * width + 3) (c .p0x)) (k * width + 4) (c .p0y)) (k * width + 5) (c .p1x)) (k * width + 6) (c .p1y)) (k * width + 7) (c .l0)) (k * width + 8) (c .l1)
     ≡ withCircle ns k c
 unfolding withCircle numbersOf
 circle-sets ns k c h =
     let i = k * width in
-    rw (add-one i, add-two i, add-three i, add-four i, add-five i, add-six i) (sets-eq (numbersOf c) ns i (omega arith))
+    rw (add-one i, add-two i, add-three i, add-four i, add-five i, add-six i, add-seven i, add-eight i) (sets-eq (numbersOf c) ns i (omega arith))
 
 all-numbers-snoc : (cs : List Inscribed) (c : Inscribed) → allNumbers (cs ++ (c ∷ [])) ≡ allNumbers cs ++ numbersOf c
 unfolding allNumbers

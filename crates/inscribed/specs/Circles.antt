@@ -1,4 +1,4 @@
--- A circle: centre x, y, radius, contact p0 x, y, contact p1 x, y. Assumes nothing.
+-- A circle: centre x, y, radius, contact p0 x, y, contact p1 x, y, then 02 (f): "the lengths along of the section's nearest points to p0 and to p1". Assumes nothing.
 use lib.Ieee.{Float}
 use Rattle.errors.specs.Answer.{Answer, result, refusal}
 use Rattle.points.specs.Points.{minus, rotated}
@@ -20,8 +20,8 @@ contact0 c = point (c .p0x) (c .p0y)
 abbrev pub contact1 : Inscribed → Point2
 contact1 c = point (c .p1x) (c .p1y)
 
-abbrev pub inscribed : Point2 → Float → Point2 → Point2 → Inscribed
-inscribed o r p q = record { cx = o .x; cy = o .y; r = r; p0x = p .x; p0y = p .y; p1x = q .x; p1y = q .y }
+abbrev pub inscribed : Point2 → Float → Point2 → Point2 → Float → Float → Inscribed
+inscribed o r p q l m = record { cx = o .x; cy = o .y; r = r; p0x = p .x; p0y = p .y; p1x = q .x; p1y = q .y; l0 = l; l1 = m }
 
 -- `contact_dir`: from the first contact to the second
 abbrev pub contactDir : Inscribed → Vector2
@@ -31,9 +31,9 @@ contactDir c = minus (contact1 c) (contact0 c)
 unfoldable pub camberPoint : Inscribed → Answer SurfacePoint2
 camberPoint c = rayNormalized (center c) (rotated Cw (contactDir c))
 
--- `reverse_points`: the contacts swapped
+-- `reverse_points`: the contacts swapped; "Swapping contacts swaps them too."
 abbrev pub reversedPoints : Inscribed → Inscribed
-reversedPoints c = inscribed (center c) (c .r) (contact1 c) (contact0 c)
+reversedPoints c = inscribed (center c) (c .r) (contact1 c) (contact0 c) (c .l1) (c .l0)
 
 abbrev pub listedInscribed : InscribedAnswer → Answer Inscribed
 listedInscribed (InscribedAnswer.Value c) = result c

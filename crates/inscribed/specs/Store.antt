@@ -14,21 +14,21 @@ use Rattle.errors.specs.declared.Refusal.the-variants.{BadNumber, NoRoom}
 
 -- a circle's numbers, in stored order, and how many they are
 abbrev pub width : ℕ
-width = 7
+width = 9
 
 unfoldable pub numbersOf : Inscribed → List Float
-numbersOf c = c .cx ∷ c .cy ∷ c .r ∷ c .p0x ∷ c .p0y ∷ c .p1x ∷ c .p1y ∷ []
+numbersOf c = c .cx ∷ c .cy ∷ c .r ∷ c .p0x ∷ c .p0y ∷ c .p1x ∷ c .p1y ∷ c .l0 ∷ c .l1 ∷ []
 
 -- the circle whose numbers start at i
 unfoldable pub circleFrom : List Float → ℕ → Inscribed
 circleFrom ns i =
-    record { cx = getD ns i nan; cy = getD ns (i + 1) nan; r = getD ns (i + 2) nan; p0x = getD ns (i + 3) nan; p0y = getD ns (i + 4) nan; p1x = getD ns (i + 5) nan; p1y = getD ns (i + 6) nan }
+    record { cx = getD ns i nan; cy = getD ns (i + 1) nan; r = getD ns (i + 2) nan; p0x = getD ns (i + 3) nan; p0y = getD ns (i + 4) nan; p1x = getD ns (i + 5) nan; p1y = getD ns (i + 6) nan; l0 = getD ns (i + 7) nan; l1 = getD ns (i + 8) nan }
 
 -- the circle in slot k
 abbrev pub circleAt : List Float → ℕ → Inscribed
 circleAt ns k = circleFrom ns (k * width)
 
--- "It holds its length divided by 7, rounded down, and at most 1,024."
+-- "its length divided by nine", rounded down, "and at most 1,024"
 abbrev pub mostSlots : ℕ
 mostSlots = 1024
 
@@ -55,10 +55,17 @@ stored cs old = allNumbers cs ++ drop (width * length cs) old
 
 -- ---- entry tests of a store with a stated count
 
--- 2: a number of a circle that "isn't finite", or "a circle's radius is below zero"
+-- the centre and both contacts
+abbrev pub finitePoints : Inscribed → Bool
+finitePoints c = (finite (c .cx) && finite (c .cy)) && ((finite (c .p0x) && finite (c .p0y)) && (finite (c .p1x) && finite (c .p1y)))
+
+-- a radius or a length along: not finite, or below zero
+abbrev pub badLength : Float → Bool
+badLength x = not (finite x) || lt x f0
+
+-- 2: a number of a circle that "isn't finite", or "a circle's radius is below zero"; 02 (f): "A circle handed in with either length along below zero is refused with 2."
 unfoldable pub badCircle : Inscribed → Bool
-badCircle c =
-    not (finite (c .cx) && (finite (c .cy) && (finite (c .r) && (finite (c .p0x) && (finite (c .p0y) && (finite (c .p1x) && finite (c .p1y))))))) || lt (c .r) f0
+badCircle c = not (finitePoints c) || (badLength (c .r) || (badLength (c .l0) || badLength (c .l1)))
 
 unfoldable pub anyBad : List Inscribed → Bool
 unfolding badCircle

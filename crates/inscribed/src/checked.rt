@@ -27,6 +27,8 @@ pub fn circle_at(store: &[f64], k: usize) -> Inscribed
     let i4 = i + 4;
     let i5 = i + 5;
     let i6 = i + 6;
+    let i7 = i + 7;
+    let i8 = i + 8;
     let cx = store[i];
     let cy = store[i1];
     let r = store[i2];
@@ -34,6 +36,8 @@ pub fn circle_at(store: &[f64], k: usize) -> Inscribed
     let p0y = store[i4];
     let p1x = store[i5];
     let p1y = store[i6];
+    let l0 = store[i7];
+    let l1 = store[i8];
     Inscribed {
         cx,
         cy,
@@ -42,6 +46,8 @@ pub fn circle_at(store: &[f64], k: usize) -> Inscribed
         p0y,
         p1x,
         p1y,
+        l0,
+        l1,
     }
 }
 
@@ -57,6 +63,8 @@ pub fn put_circle(store: &mut [f64], k: usize, c: Inscribed)
     let i4 = i + 4;
     let i5 = i + 5;
     let i6 = i + 6;
+    let i7 = i + 7;
+    let i8 = i + 8;
     store[i] = c.cx;
     store[i1] = c.cy;
     store[i2] = c.r;
@@ -64,6 +72,8 @@ pub fn put_circle(store: &mut [f64], k: usize, c: Inscribed)
     store[i4] = c.p0y;
     store[i5] = c.p1x;
     store[i6] = c.p1y;
+    store[i7] = c.l0;
+    store[i8] = c.l1;
 }
 
 // The first and the last circle: 7 where there is none.

@@ -12,7 +12,7 @@ ghost use mathlib.Core.Path.{_≡_};
 ghost use Rattle.line2.specs.Rays.{listedRay};
 ghost use Rattle.inscribed.specs.Circles.{center, contactDir, camberPoint, reversedPoints};
 
-// An inscribed circle: centre, radius, and the two points where it touches the section.
+// An inscribed circle: centre, radius, the two points where it touches the section, and the lengths along of the section's nearest points to these.
 pub struct Inscribed {
     pub cx: f64,
     pub cy: f64,
@@ -21,6 +21,8 @@ pub struct Inscribed {
     pub p0y: f64,
     pub p1x: f64,
     pub p1y: f64,
+    pub l0: f64,
+    pub l1: f64,
 }
 
 // A circle, or why there is none.
@@ -74,7 +76,7 @@ impl Inscribed {
         SurfacePoint2::new_normalize(o, n)
     }
 
-    // The circle with its contacts swapped.
+    // The circle with its contacts swapped, and their lengths along.
     pub fn reverse_points(self) -> Inscribed
         ensures { λ r. ⌜ r ≡ reversedPoints self ⌝ }
     {
@@ -85,6 +87,8 @@ impl Inscribed {
         let p0y = self.p0y;
         let p1x = self.p1x;
         let p1y = self.p1y;
+        let l0 = self.l0;
+        let l1 = self.l1;
         Inscribed {
             cx,
             cy,
@@ -93,6 +97,8 @@ impl Inscribed {
             p0y: p1y,
             p1x: p0x,
             p1y: p0y,
+            l0: l1,
+            l1: l0,
         }
     }
 }

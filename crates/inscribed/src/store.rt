@@ -4,12 +4,14 @@ use crate::checked;
 use curve2::Entry;
 use errors::Refusal;
 ghost use mathlib.Core.Path.{_≡_};
+ghost use mathlib.Core.Bool.{_&&_};
 ghost use Prim.Native.Nat.{_+_, _*_, _/_, min};
+ghost use lib.Ieee.Scale.{finite};
 ghost use Rattle.curve2.specs.Entry.{listedEntry};
-ghost use Rattle.inscribed.specs.Store.{width, mostSlots, badCircle, badStore, badStoreCount, circlesEntry, numbersFrom};
+ghost use Rattle.inscribed.specs.Store.{width, mostSlots, finitePoints, badLength, badCircle, badStore, badStoreCount, circlesEntry, numbersFrom};
 
 // How many numbers a circle has in a store.
-pub const WIDTH: usize = 7;
+pub const WIDTH: usize = 9;
 
 // How many circles a store holds at most.
 pub const MOST_SLOTS: usize = 1024;
@@ -28,39 +30,62 @@ pub fn slots_in(len: usize) -> usize
     least(len / WIDTH, MOST_SLOTS)
 }
 
-// A number that isn't finite, or a radius below zero.
-pub fn is_bad_circle(c: Inscribed) -> bool
-    ensures { λ r. ⌜ r ≡ badCircle c ⌝ }
+// Whether both coordinates of a point are finite.
+fn is_finite_point(x: f64, y: f64) -> bool
+    ensures { λ r. ⌜ r ≡ (finite x && finite y) ⌝ }
+{
+    if errors::is_finite(x) {
+        return errors::is_finite(y);
+    }
+    false
+}
+
+// Whether the centre and both contacts are finite.
+fn has_finite_points(c: Inscribed) -> bool
+    ensures { λ r. ⌜ r ≡ finitePoints c ⌝ }
 {
     let cx = c.cx;
     let cy = c.cy;
-    let r = c.r;
     let p0x = c.p0x;
     let p0y = c.p0y;
     let p1x = c.p1x;
     let p1y = c.p1y;
-    if !errors::is_finite(cx) {
+    if !is_finite_point(cx, cy) {
+        return false;
+    }
+    if !is_finite_point(p0x, p0y) {
+        return false;
+    }
+    is_finite_point(p1x, p1y)
+}
+
+// A radius or a length along that isn't finite, or is below zero.
+fn is_bad_length(x: f64) -> bool
+    ensures { λ r. ⌜ r ≡ badLength x ⌝ }
+{
+    if !errors::is_finite(x) {
         return true;
     }
-    if !errors::is_finite(cy) {
+    x < 0.0
+}
+
+// A number that isn't finite, or a radius or a length along below zero.
+pub fn is_bad_circle(c: Inscribed) -> bool
+    ensures { λ r. ⌜ r ≡ badCircle c ⌝ }
+{
+    let r = c.r;
+    let l0 = c.l0;
+    let l1 = c.l1;
+    if !has_finite_points(c) {
         return true;
     }
-    if !errors::is_finite(r) {
+    if is_bad_length(r) {
         return true;
     }
-    if !errors::is_finite(p0x) {
+    if is_bad_length(l0) {
         return true;
     }
-    if !errors::is_finite(p0y) {
-        return true;
-    }
-    if !errors::is_finite(p1x) {
-        return true;
-    }
-    if !errors::is_finite(p1y) {
-        return true;
-    }
-    r < 0.0
+    is_bad_length(l1)
 }
 
 // Test 2 of a store: a bad circle in use, as far as the store holds them.

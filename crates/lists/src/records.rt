@@ -64,7 +64,7 @@ fn tell(all: Thickest) -> PlaceAnswer
     PlaceAnswer::Value(place)
 }
 
-// The place of the thickest circle, the last of equal ones; 0 where there is none. 2 where a number isn't finite or a radius is below zero.
+// The place of the thickest circle, the last of equal ones; 0 where there is none. 2 where a number isn't finite or a radius or a length along is below zero.
 pub fn index_of_tmax_of(circles: &[Inscribed]) -> PlaceAnswer
     ensures { λ r. ⌜ listedPlace r ≡ tmaxRecords (now (circles .entry)) ⌝ }
 {

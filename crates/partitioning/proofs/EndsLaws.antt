@@ -22,8 +22,10 @@ use Rattle.sections.specs.Places.{atLength, lengthAt, lengthAlong}
 use Rattle.partitioning.specs.Walk.{along, endsOf, wrap, isEmpty}
 use Rattle.partitioning.specs.Code.{Stops, Walkable}
 use Rattle.partitioning.specs.declared.Ends.{Ends}
-use Rattle.partitioning.proofs.Floats.{Size, Above, Below, plus, sized, lt-size, not-lt-size, size-le, size-not-lt, size-unique, at-start, not-before, not-behind, fraction-value, interval-plus, plus-between, f0-value, f1-value, add-finite, sub-finite, mul-finite, unit-pos}
-use Rattle.partitioning.proofs.SpotLaws.{Spot, on-vertex, on-last, inside, spot, spot-on, length-rises, length-fits, length-plus, length-finite, length-size, length-order}
+use Rattle.points.proofs.Plus.{Size, plus, sized, f0-value, f1-value, add-finite, sub-finite, mul-finite, unit-pos}
+use Rattle.partitioning.proofs.Floats.{Above, Below, lt-size, not-lt-size, size-le, size-not-lt, size-unique, at-start, not-before, not-behind, fraction-value, interval-plus, plus-between}
+use Rattle.sections.proofs.RisingLaws.{length-rises, length-plus, length-finite}
+use Rattle.partitioning.proofs.SpotLaws.{Spot, on-vertex, on-last, inside, spot, spot-on, length-fits, length-size, length-order}
 
 -- ---- the four steps to the ends
 

@@ -1,169 +1,23 @@
 -- A place inside an interval of lengths, in binary64: by its fraction it lies no earlier than the interval's start and no later than its end. Assumes nothing.
 use mathlib.Core.Path.{_≡_, refl, sym, ap, _∙_, subst}
-use mathlib.Core.Bool.{Bool, true, false, not, _&&_, _||_, Bool·beq, cond, true≢false}
-use Prim.Native.Nat.{ℕ, zero, suc, _+_, _-_, _*_, _/_, _%_, _^_, _≤_, _<_}
-use native.Mathlib.Nat.{mul-pos, add-sub-of-le, add-zero, le-add-right, zero-mul, not-le-of-lt, le-trans, le-of-eq, mul-one, one-mul, mul-assoc, mul-comm, mul-le-mul-right, le-of-mul-le-mul-right, lt-of-mul-lt-mul-right, eq-of-mul-eq-mul-right}
+use mathlib.Core.Bool.{Bool, true, false, _&&_, _||_, true≢false}
+use Prim.Native.Nat.{ℕ, suc, _+_, _-_, _*_, _/_, _^_, _≤_, _<_}
+use native.Mathlib.Nat.{mul-pos, add-sub-of-le, add-zero, le-add-right, le-trans, le-of-eq, mul-one, mul-le-mul-right, le-of-mul-le-mul-right, eq-of-mul-eq-mul-right}
 use native.Mathlib.Omega.{arith}
-use borrow.Author.Tests.{ltb-true, ltb-false, eqb-true, eqb-false, leb-true, lt-ltb, le-ltb, not-true, not-false}
-use lib.Dec.{T, ltb, leb, eqb, ltb→lt, leb→le}
-use lib.IntN.{ℤ, pos, negsuc}
-use lib.Pow.{pow-pos, pow-add, pow-lt}
-use lib.Ieee.{Float, nan, inf, fin, binary64, low, emax, unlike, up, down, round, sum, odd, units, add, sub, mul, div, neg, lt, le, eq, fits, ofBits}
-use lib.Ieee.Bits.{is-true, ofBits-fits}
-use lib.Ieee.Digits.{back}
+use borrow.Author.Tests.{ltb-true, ltb-false, le-ltb}
+use lib.Dec.{T, ltb, eqb}
+use lib.Pow.{pow-pos, pow-add}
+use lib.Ieee.{Float, nan, inf, fin, binary64, low, emax, up, down, round, units, lt, le, eq}
+use lib.Ieee.Bits.{is-true}
 use lib.Ieee.Exact.{HasValue}
-use lib.Ieee.Fits.{down-pos, up-pos, add-fits, and-l, and-r}
-use lib.Ieee.Order.{le-of-values, round-mono, transfer}
+use lib.Ieee.Fits.{down-pos}
+use lib.Ieee.Order.{le-of-values, transfer}
 use lib.Ieee.Positive.{num, den, den-pos}
 use lib.Ieee.Scale.{grid, overflow, finite, round-val, round-under}
-use Rattle.points.specs.Numbers.{_+f_, _-f_, _*f_, _/f_, f0, f1}
+use Rattle.points.specs.Numbers.{_+f_, _-f_, _*f_, _/f_, f0}
 use Rattle.points.proofs.Values.{add-value, sub-value, mul-value, div-value}
+use Rattle.points.proofs.Plus.{unit-pos, Size, plus, div-finite, add-finite, mul-finite, valued-plus, own-value, f0-value}
 use Rattle.partitioning.proofs.Rounding.{rounded, rounded-same, rounded-order, rounded-exact, rounded-pos, not-passed, way-inside}
-
--- ---- values at or above zero, in units of the smallest
-
-abbrev pub unit : ℕ
-unit = 2 ^ low binary64
-
-pub unit-pos : 0 < 2 ^ low binary64
-unit-pos = pow-pos (low binary64)
-
--- W units, with 53 digits
-pub record Size (x : Float) : Type 0 where
-  pub digits : ℕ
-  pub exponent : ℕ
-  pub few : digits < 2 ^ 53
-  pub value : HasValue x false (digits * 2 ^ exponent) (2 ^ low binary64)
-
-abbrev pub size : {x : Float} → Size x → ℕ
-size s = s .digits * 2 ^ s .exponent
-
--- neither below zero nor a NaN; and finite
-abbrev pub plus : Float → Bool
-plus nan = false
-plus (inf s) = not s
-plus (fin s m e) = not s
-
-second-third : (a b c d : Bool) → T (a && b && c && d) → T b × T c
-second-third true true true d t = (tt, tt)
-second-third true true false d t = absurd t
-second-third true false c d t = absurd t
-second-third false b c d t = absurd t
-
-whole-size : (m k l : ℕ) → m * 2 ^ k * 2 ^ l ≡ m * 2 ^ (k + l) * 1
-whole-size m k l = mul-assoc m (2 ^ k) (2 ^ l) ∙ ap (λ (z : ℕ). m * z) (sym (pow-add 2 k l)) ∙ sym (mul-one (m * 2 ^ (k + l)))
-
-part-size : (m k l : ℕ) → k ≤ l → m * 1 * 2 ^ l ≡ m * 2 ^ (l - k) * 2 ^ k
-part-size m k l h = ap (λ (z : ℕ). z * 2 ^ l) (mul-one m) ∙ ap (λ (z : ℕ). m * z) (sym (ap (λ (z : ℕ). 2 ^ z) (back l k h)) ∙ pow-add 2 (l - k) k) ∙ sym (mul-assoc m (2 ^ (l - k)) (2 ^ k))
-
-no-size : (a b c : ℕ) → 0 * a * b ≡ 0 * 2 ^ 0 * c
-no-size a b c = omega arith
-
-lower-power : (k l : ℕ) → 2 ^ k ≤ 2 ^ l → k ≤ l
-lower-power k l h = go (ltb l k) refl
-  where
-    go : (t : Bool) → ltb l k ≡ t → k ≤ l
-    go false e = ltb-false l k e
-    go true e = absurd (not-le-of-lt (pow-lt (ltb-true l k e)) h)
-
-pub sized : (x : Float) → T (fits binary64 x) → T (plus x) → T (finite x) → Size x
-unfolding fits
-sized nan f p q = absurd p
-sized (inf s) f p q = absurd q
-sized (fin true m e) f p q = absurd p
-sized (fin false zero e) f p q = record { digits = 0; exponent = 0; few = omega arith; value = (refl, no-size (up e) (2 ^ low binary64) (down e)) }
-sized (fin false (suc m) (pos k)) f p q =
-    let t = second-third (eqb (suc m % 2) 1) (ltb (suc m) (2 ^ 53)) (leb (down (pos k)) (2 ^ low binary64)) (ltb (suc m * up (pos k)) (2 ^ suc (emax binary64) * down (pos k))) f in
-    record { digits = suc m; exponent = k + low binary64; few = ltb→lt (suc m) (2 ^ 53) (t .0); value = (refl, whole-size (suc m) k (low binary64)) }
-sized (fin false (suc m) (negsuc k)) f p q =
-    let t = second-third (eqb (suc m % 2) 1) (ltb (suc m) (2 ^ 53)) (leb (down (negsuc k)) (2 ^ low binary64)) (ltb (suc m * up (negsuc k)) (2 ^ suc (emax binary64) * down (negsuc k))) f in
-    let h : suc k ≤ low binary64 = lower-power (suc k) (low binary64) (leb→le (2 ^ suc k) (2 ^ low binary64) (t .1)) in
-    record { digits = suc m; exponent = low binary64 - suc k; few = ltb→lt (suc m) (2 ^ 53) (t .0); value = (refl, part-size (suc m) (suc k) (low binary64) h) }
-
--- ---- which are finite
-
-neg-finite : (x : Float) → T (finite (neg x)) → T (finite x)
-unfolding neg
-neg-finite nan t = t
-neg-finite (inf s) t = t
-neg-finite (fin s m e) t = t
-
-pub add-finite : (x y : Float) → T (finite (x +f y)) → T (finite x) × T (finite y)
-unfolding add
-add-finite nan y t = absurd t
-add-finite (inf s) nan t = absurd t
-add-finite (inf s) (inf r) t = absurd (go (Bool·beq s r) t)
-  where
-    go : (b : Bool) → T (finite (cond b (inf s) nan)) → ⊥
-    go true t = t
-    go false t = t
-add-finite (inf s) (fin r n d) t = absurd t
-add-finite (fin s m e) nan t = absurd t
-add-finite (fin s m e) (inf r) t = absurd t
-add-finite (fin s m e) (fin r n d) t = (tt, tt)
-
-pub sub-finite : (x y : Float) → T (finite (x -f y)) → T (finite x) × T (finite y)
-unfolding sub
-sub-finite x y t = let p = add-finite x (neg y) t in (p .0, neg-finite y (p .1))
-
-either-wild : (b s : Bool) → T (finite (cond b nan (inf s))) → ⊥
-either-wild true s t = t
-either-wild false s t = t
-
-pub mul-finite : (x y : Float) → T (finite (x *f y)) → T (finite x) × T (finite y)
-unfolding mul
-mul-finite nan y t = absurd t
-mul-finite (inf s) nan t = absurd t
-mul-finite (inf s) (inf r) t = absurd t
-mul-finite (inf s) (fin r n d) t = absurd (either-wild (eqb n 0) (unlike s r) t)
-mul-finite (fin s m e) nan t = absurd t
-mul-finite (fin s m e) (inf r) t = absurd (either-wild (eqb m 0) (unlike s r) t)
-mul-finite (fin s m e) (fin r n d) t = (tt, tt)
-
-div-finite : (x y : Float) → T (finite (x /f y)) → T (finite x)
-unfolding div
-div-finite nan y t = absurd t
-div-finite (inf s) nan t = absurd t
-div-finite (inf s) (inf r) t = absurd t
-div-finite (inf s) (fin r n d) t = absurd t
-div-finite (fin s m e) y t = tt
-
--- ---- which are at or above zero
-
-valued-plus : (x : Float) (a c : ℕ) → HasValue x false a c → T (plus x)
-valued-plus nan a c v = absurd v
-valued-plus (inf s) a c v = absurd v
-valued-plus (fin s m e) a c v = rw (v .0) tt
-
-pub own-value : (x : Float) → T (plus x) → T (finite x) → HasValue x false (num x) (den x)
-own-value nan p q = absurd p
-own-value (inf s) p q = absurd q
-own-value (fin true m e) p q = absurd p
-own-value (fin false m e) p q = (refl, refl)
-
--- what is above such a number is one
-pub plus-above : (x y : Float) → T (plus x) → T (lt x y) → T (plus y)
-unfolding lt
-plus-above nan y p h = absurd p
-plus-above (inf true) y p h = absurd p
-plus-above (inf false) nan p h = absurd h
-plus-above (inf false) (inf t) p h = absurd h
-plus-above (inf false) (fin t n d) p h = absurd h
-plus-above (fin true m e) y p h = absurd p
-plus-above (fin false m e) nan p h = absurd h
-plus-above (fin false m e) (inf t) p h = h
-plus-above (fin false m e) (fin true n d) p h = absurd h
-plus-above (fin false m e) (fin false n d) p h = tt
-
--- and what has such a number above it is finite
-pub finite-below : (x y : Float) → T (plus x) → T (lt x y) → T (finite x)
-unfolding lt
-finite-below nan y p h = absurd p
-finite-below (inf true) y p h = absurd p
-finite-below (inf false) nan p h = absurd h
-finite-below (inf false) (inf t) p h = absurd h
-finite-below (inf false) (fin t n d) p h = absurd h
-finite-below (fin s m e) y p h = tt
 
 -- ---- their order is that of their sizes
 
@@ -224,14 +78,6 @@ as-value x y a c e v = rw e v
 
 as-finite : (x y : Float) → x ≡ y → T (finite x) → T (finite y)
 as-finite x y e t = rw (← e) t
-
-pub f0-value : HasValue f0 false 0 1
-unfolding ofBits
-f0-value = (refl, refl)
-
-pub f1-value : HasValue f1 false 1 1
-unfolding ofBits
-f1-value = (refl, refl)
 
 no-units : (n c U : ℕ) → 0 < c → rounded (n * 0 * U) c ≡ 0
 no-units n c U h = omega (arith, not-passed (n * 0 * U) c 0 0 h (omega arith) (omega arith))
@@ -394,10 +240,3 @@ pub size-unique : (x : Float) (a b : ℕ) → HasValue x false a (2 ^ low binary
 size-unique nan a b v w = absurd v
 size-unique (inf s) a b v w = absurd v
 size-unique (fin s m e) a b v w = eq-of-mul-eq-mul-right (down e) (down-pos e) a b (sym (v .1) ∙ w .1)
-
-pub f0-fits : T (fits binary64 f0)
-f0-fits = ofBits-fits binary64 0
-
-pub f0-plus : T (plus f0)
-unfolding ofBits
-f0-plus = tt

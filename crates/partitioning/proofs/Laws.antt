@@ -33,7 +33,7 @@ use Rattle.partitioning.specs.declared.Ends.{Ends}
 use Rattle.partitioning.specs.declared.walk.Working.{Working}
 use Rattle.partitioning.proofs.TurnLaws.{at-inner, at-end}
 use Rattle.partitioning.proofs.LegLaws.{went-on, still-ahead, inner, vertex-on, onward, leg-by-turn}
-use Rattle.partitioning.proofs.Floats.{f0-fits}
+use Rattle.points.proofs.Plus.{f0-fits}
 use Rattle.partitioning.proofs.SpotLaws.{spot, spot-on}
 use Rattle.partitioning.proofs.EndsLaws.{ends-are, start-first}
 use Rattle.partitioning.proofs.StretchLaws.{given-walkable}

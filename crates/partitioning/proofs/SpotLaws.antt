@@ -1,72 +1,42 @@
 -- Where `at_length` finds a station, and the lengths at its edge. Assumes nothing.
-use mathlib.Core.Path.{_≡_, refl, sym, ap, _∙_}
-use mathlib.Core.Bool.{Bool, true, false, not, _||_, cond}
-use mathlib.Core.List.{List, [], _∷_}
+use mathlib.Core.Path.{_≡_, refl, ap}
+use mathlib.Core.Bool.{Bool, true, false, _||_, cond}
+use mathlib.Core.List.{List}
 use Prim.Native.Nat.{ℕ, zero, suc, _+_, _-_, _*_, _/_, _^_, _≤_, _<_}
 use native.Mathlib.Numerals.{add-one}
-use native.Mathlib.Nat.{add-zero, add-suc}
+use native.Mathlib.Nat.{add-zero}
 use native.Mathlib.Omega.{arith}
-use borrow.Author.Tests.{not-false}
 use lib.Dec.{T}
-use lib.ListN.{length, getD, drop}
-use lib.Ieee.{Float, nan, binary64, fits, lt, eq}
+use lib.ListN.{drop}
+use lib.Ieee.{Float, binary64, fits, lt, eq}
 use lib.Ieee.Fits.{add-fits}
 use lib.Ieee.Scale.{finite}
 use Rattle.errors.specs.Answer.{Answer, result, refusal, watched, _>>=_}
 use Rattle.errors.specs.declared.Refusal.the-variants.{NotFinite, OffCurve}
-use Rattle.points.specs.Numbers.{_+f_, _-f_, _*f_, _/f_, f0, f1}
+use Rattle.points.specs.Numbers.{_+f_, _-f_, _/f_, f0, f1}
 use Rattle.points.specs.Points.{minus, moved, normalized, watchedPoint}
 use Rattle.points.specs.declared.Point2.{Point2}
 use Rattle.points.specs.declared.Vector2.{Vector2}
-use Rattle.curve2.specs.Section.{pointsOf, pointAt, plainDist, lengthsFrom, lengthsOf, wholeLength}
-use Rattle.curve2.specs.Entry.{crowded, notRising, HasPoints, IsSection}
+use Rattle.curve2.specs.Section.{pointsOf, pointAt, plainDist, wholeLength}
+use Rattle.curve2.specs.Entry.{HasPoints, IsSection}
 use Rattle.curve2.specs.Stations.{station, vertex, lastVertex, atVertex}
 use Rattle.curve2.specs.declared.CurveStation2.{CurveStation2}
-use Rattle.curve2.proofs.Laws.{or-left, or-right, points-step, length-points}
 use Rattle.sections.specs.Places.{insideEdge, atLengthFrom, atLength, lengthAt}
-use Rattle.sections.proofs.LengthLaws.{lengths-at, length-after, at-exact, at-inside, at-later, at-last}
-use Rattle.partitioning.proofs.Floats.{Size, plus, sized, plus-above, finite-below, lt-size, size-unique, f0-fits, f0-plus}
+use Rattle.sections.proofs.LengthLaws.{length-start, length-after, at-exact, at-inside, at-later, at-last}
+use Rattle.sections.proofs.RisingLaws.{length-rises, length-plus, length-finite}
+use Rattle.points.proofs.Plus.{Size, sized, f0-fits}
+use Rattle.partitioning.proofs.Floats.{lt-size, size-unique}
 use Rattle.partitioning.proofs.TurnLaws.{at-inner, at-end}
 
 -- ---- the lengths of a section
 
-lengths-long : (l : Float) (ps : List Point2) → length (lengthsFrom l ps) ≡ length ps
-unfolding lengthsFrom
-lengths-long l [] = refl
-lengths-long l (p ∷ []) = refl
-lengths-long l (p ∷ (q ∷ ps)) = omega (arith, lengths-long (plainDist q p +f l) (q ∷ ps))
-
-rising-at : (ls : List Float) (i : ℕ) → notRising ls ≡ false → i + 1 < length ls → lt (getD ls i nan) (getD ls (i + 1) nan) ≡ true
-unfolding notRising
-rising-at [] i r h = absurd (omega arith)
-rising-at (l ∷ []) i r h = absurd (omega arith)
-rising-at (l ∷ (m ∷ ls)) zero r h = not-false (lt l m) (or-left (not (lt l m)) (notRising (m ∷ ls)) r)
-rising-at (l ∷ (m ∷ ls)) (suc i) r h = rw (add-one (suc i)) (rw (add-one i) at (rising-at (m ∷ ls) i (or-right (not (lt l m)) (notRising (m ∷ ls)) r) (omega arith)))
-
 module _ (ns : List Float) (tol : Float) (sec : IsSection ns tol) where
-  pub length-rises : (i : ℕ) → i < lastVertex ns → lt (lengthAt ns i) (lengthAt ns (i + 1)) ≡ true
-  unfolding lengthsOf
-  length-rises i h =
-      rising-at (lengthsOf (pointsOf ns)) i (or-right (crowded tol (pointsOf ns)) (notRising (lengthsOf (pointsOf ns))) (sec .spaced))
-      (omega (arith, lengths-long f0 (pointsOf ns), length-points ns, h))
-
-  pub length-start : lengthAt ns 0 ≡ f0
-  unfolding lengthsOf lengthsFrom
-  length-start = rw (points-step ns 0 (omega (arith, sec .points .least)), points-step ns 2 (omega (arith, sec .points .least)))
-
   pub length-fits : (i : ℕ) → i ≤ lastVertex ns → T (fits binary64 (lengthAt ns i))
-  length-fits zero h = rw length-start f0-fits
+  length-fits zero h = rw (length-start ns (omega (arith, sec .points .least))) f0-fits
   length-fits (suc i) h = rw (← (add-one i), length-after ns i (omega arith)) (add-fits binary64 (plainDist (pointAt ns (2 * i + 2)) (pointAt ns (2 * i))) (lengthAt ns i))
 
-  pub length-plus : (i : ℕ) → i ≤ lastVertex ns → T (plus (lengthAt ns i))
-  length-plus zero h = rw length-start f0-plus
-  length-plus (suc i) h = rw (← (add-one i)) (plus-above (lengthAt ns i) (lengthAt ns (i + 1)) (length-plus i (omega arith)) (rw (length-rises i (omega arith)) tt))
-
-  pub length-finite : (i : ℕ) → i < lastVertex ns → T (finite (lengthAt ns i))
-  length-finite i h = finite-below (lengthAt ns i) (lengthAt ns (i + 1)) (length-plus i (omega arith)) (rw (length-rises i h) tt)
-
   pub length-size : (i : ℕ) → i < lastVertex ns → Size (lengthAt ns i)
-  length-size i h = sized (lengthAt ns i) (length-fits i (omega arith)) (length-plus i (omega arith)) (length-finite i h)
+  length-size i h = sized (lengthAt ns i) (length-fits i (omega arith)) (length-plus ns tol sec i (omega arith)) (length-finite ns tol sec i h)
 
   -- later lengths are no smaller
   pub length-order : (k i : ℕ) → i + k < lastVertex ns → (s : Size (lengthAt ns i)) (t : Size (lengthAt ns (i + k))) → s .digits * 2 ^ s .exponent ≤ t .digits * 2 ^ t .exponent
@@ -77,7 +47,7 @@ module _ (ns : List Float) (tol : Float) (sec : IsSection ns tol) where
       let u = length-size (i + k) (omega arith) in
       let before = length-order k i (omega arith) s u in
       let next : i + suc k ≡ i + k + 1 = omega arith in
-      let less = lt-size (lengthAt ns (i + k)) (lengthAt ns (i + k + 1)) (u .digits * 2 ^ u .exponent) (t .digits * 2 ^ t .exponent) (u .value) (rw (ap (λ (n : ℕ). lengthAt ns n) next) at (t .value)) (length-rises (i + k) (omega arith)) in
+      let less = lt-size (lengthAt ns (i + k)) (lengthAt ns (i + k + 1)) (u .digits * 2 ^ u .exponent) (t .digits * 2 ^ t .exponent) (u .value) (rw (ap (λ (n : ℕ). lengthAt ns n) next) at (t .value)) (length-rises ns tol sec (i + k) (omega arith)) in
       omega (arith, before, less)
 
 -- ---- where a station is
@@ -139,7 +109,7 @@ spot ns tol l s sec e = go (lt l f0) (lt (wholeLength ns) l) refl e
     go true y p e = let z : _≡_ {A = ℕ} 0 1 = cc in absurd (omega arith)
     go false true p e = let z : _≡_ {A = ℕ} 0 1 = cc in absurd (omega arith)
     go false false p e =
-        let start = length-start ns tol sec in
+        let start = length-start ns (omega (arith, sec .points .least)) in
         spot-from ns tol l s (sec .points) (lastVertex ns) 0 (omega arith) (rw start p) (rw start e)
 
 pub spot-on : (ns : List Float) (l : Float) (s : CurveStation2) → Spot ns l s → s .index < lastVertex ns

@@ -29,7 +29,7 @@ use Rattle.errors.specs.declared.Refusal.the-variants.{StackFull, StoreFull}
 -- ---- the waiting circles in their array, the newest last
 
 abbrev pub noCircle : Inscribed
-noCircle = record { cx = nan; cy = nan; r = nan; p0x = nan; p0y = nan; p1x = nan; p1y = nan }
+noCircle = record { cx = nan; cy = nan; r = nan; p0x = nan; p0y = nan; p1x = nan; p1y = nan; l0 = nan; l1 = nan }
 
 unfoldable pub stack : List Inscribed → ℕ → List Inscribed
 stack ws zero = []

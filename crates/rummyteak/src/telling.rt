@@ -162,7 +162,9 @@ fn put_circle(circle: &mut [f64; WIDTH], c: Inscribed)
     let p0y = c.p0y;
     let p1x = c.p1x;
     let p1y = c.p1y;
-    *circle = [cx, cy, r, p0x, p0y, p1x, p1y];
+    let l0 = c.l0;
+    let l1 = c.l1;
+    *circle = [cx, cy, r, p0x, p0y, p1x, p1y, l0, l1];
 }
 
 // A circle.

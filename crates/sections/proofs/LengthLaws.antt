@@ -3,7 +3,6 @@ use mathlib.Core.Path.{_≡_, refl, sym, ap, _∙_}
 use mathlib.Core.Bool.{true, false}
 use mathlib.Core.List.{List, [], _∷_}
 use Prim.Native.Nat.{ℕ, zero, suc, _+_, _*_, _/_, _<_}
-use native.Mathlib.Nat.{add-zero}
 use native.Mathlib.Numerals.{add-one}
 use native.Mathlib.Omega.{arith}
 use lib.ListN.{length, getD, drop}
@@ -64,17 +63,16 @@ module _ (ns : List Float) (i : ℕ) (m : Float) (inv : drop i (lengthsOf (point
   unfolding lengthsFrom
   here = rw (points-step ns (2 * i + 2) (omega arith)) (rw (edge-step ns i fits, ← is) at inv)
 
-  pub lengths-step : drop (i + 1) ls ≡ lengthsFrom (d +f m) (pointsOf (drop (2 * (i + 1)) ns))
+  lengths-step : drop (i + 1) ls ≡ lengthsFrom (d +f m) (pointsOf (drop (2 * (i + 1)) ns))
   lengths-step = rw (next-vertex i) (sym (drop-drop 1 i ls) ∙ ap (λ (x : List Float). drop 1 x) here)
-
-  length-here : getD ls i nan ≡ m
-  length-here = (rw (add-zero i) at (sym (getD-drop i ls 0 nan))) ∙ rw here
 
   length-next : getD ls (i + 1) nan ≡ d +f m
   length-next = sym (getD-drop i ls 1 nan) ∙ rw (here, points-step ns (2 * i + 2) (omega arith)) (first-length (d +f m) _ _)
 
-pub length-there : (ns : List Float) (i : ℕ) (m : Float) → drop i (lengthsOf (pointsOf ns)) ≡ lengthsFrom m (pointsOf (drop (2 * i) ns)) → (k : ℕ) → i < lastVertex ns → i ≡ k → m ≡ lengthAt ns k
-length-there ns i m inv k fits e = rw (← e) (sym (length-here ns i m inv fits _ refl))
+-- at the first vertex
+pub length-start : (ns : List Float) → 1 < length ns → lengthAt ns 0 ≡ f0
+unfolding lengthsOf
+length-start ns h = rw (points-step ns 0 (omega arith)) (first-length f0 (pointAt ns 0) (pointsOf (drop 2 ns)))
 
 -- at every vertex the lengths left start with the length there
 pub lengths-at : (ns : List Float) (i : ℕ) → i < length ns / 2 → drop i (lengthsOf (pointsOf ns)) ≡ lengthsFrom (lengthAt ns i) (pointsOf (drop (2 * i) ns))

@@ -12,6 +12,8 @@ use Rattle.curve2.specs.Section.{pointsOf, nextLength, lengthsOf, wholeLength}
 use Rattle.curve2.specs.Stations.{station, edgeDirection, atVertex}
 use Rattle.queries.specs.Nearest.{nearestOf}
 use Rattle.curve2.specs.declared.CurveStation2.{CurveStation2}
+use Rattle.sections.specs.declared.LengthPair.{LengthPair}
+use Rattle.sections.specs.declared.LengthPairAnswer.{LengthPairAnswer}
 use Rattle.errors.specs.declared.Refusal.the-variants.{OffCurve}
 
 -- ---- by length
@@ -48,8 +50,22 @@ lengthAlong ns i f =
     let n = lengthAt ns (i + 1) in
     watched (m +f (n -f m) *f f)
 
+-- the lengths along of two places
+unfoldable pub lengthsAlong : List Float → ℕ → Float → ℕ → Float → Answer LengthPair
+unfolding lengthAlong
+lengthsAlong ns i f j g = lengthAlong ns i f >>= λ l. lengthAlong ns j g >>= λ m. result (record { first = l; second = m })
+
 -- ---- by nearness
 
 -- leaf rule "Nearest point": "the station has that edge, its direction, and s held to 0 to 1 as fraction"
 unfoldable pub atClosest : List Float → Point2 → Answer CurveStation2
 atClosest ns p = nearestOf ns p >>= λ n. edgeDirection ns (n .index) >>= λ d. result (station (n .at .point) d (n .index) (n .at .fraction))
+
+-- 02 (f): "the lengths along of the section's nearest points to p0 and to p1"
+unfoldable pub closestLengths : List Float → Point2 → Point2 → Answer LengthPair
+unfolding lengthsAlong
+closestLengths ns p q = nearestOf ns p >>= λ a. nearestOf ns q >>= λ b. lengthsAlong ns (a .index) (a .at .fraction) (b .index) (b .at .fraction)
+
+abbrev pub listedLengthPair : LengthPairAnswer → Answer LengthPair
+listedLengthPair (LengthPairAnswer.Value l) = result l
+listedLengthPair (LengthPairAnswer.Refused r) = refusal r

@@ -27,6 +27,18 @@ pub enum BoolAnswer {
     Refused(Refusal),
 }
 
+// The lengths along of two places.
+pub struct LengthPair {
+    pub first: f64,
+    pub second: f64,
+}
+
+// Both lengths, or why there are none.
+pub enum LengthPairAnswer {
+    Value(LengthPair),
+    Refused(Refusal),
+}
+
 // ---- the entry tests
 
 // The entry tests, with a bad number (2) and a place that isn't there (4) among the other arguments.

@@ -8,7 +8,7 @@ use lib.Ieee.{Float, binary64, ofBits, ofFields, odd, units, round, size, span, 
 use Rattle.errors.specs.Answer.{Answer, result, refusal}
 use Rattle.errors.specs.Lists.{lastOf}
 use Rattle.root.specs.Sqrt.{rootDigits, wholeRoot, rootOfUnits, sqrtOf, rootAsked}
-use Rattle.points.specs.Numbers.{f0, f½, f1}
+use Rattle.points.specs.Numbers.{_-f_, f0, f½, f1}
 use Rattle.points.specs.Points.{dotOf, normOf, distOf, difference, normalized, midPointOf}
 use Rattle.points.specs.declared.Vector2.{Vector2}
 use Rattle.line2.specs.Lines.{lineOf, lineThrough, atParam, lineProjection, lineNormalized}
@@ -23,7 +23,7 @@ use Rattle.queries.specs.declared.Crossing.{Crossing}
 use Rattle.queries.specs.Nearest.{closestOnAll, leastOf, leastOfAll, nearestOf}
 use Rattle.points.specs.Closest.{fractionOn, heldPoint, measuredTo, closestOnEdge}
 use Rattle.curve2.specs.Stations.{edgeDirection, meanDirection, vertexDirection, atVertex, station}
-use Rattle.sections.specs.Places.{insideEdge, atLengthFrom, atLength}
+use Rattle.sections.specs.Places.{insideEdge, atLengthFrom, atLength, lengthAlong, lengthsAlong, closestLengths}
 use Rattle.inscribed.specs.Circles.{inscribed, camberPoint}
 use Rattle.circles.specs.Asked.{circleEntry, tryAsked}
 use Rattle.circles.specs.declared.CircleOnLine.{CircleOnLine}
@@ -81,6 +81,9 @@ f8 = ofBits binary64 0x4020000000000000
 abbrev f9 : Float
 f9 = ofBits binary64 0x4022000000000000
 
+abbrev f18 : Float
+f18 = ofBits binary64 0x4032000000000000
+
 abbrev f20 : Float
 f20 = ofBits binary64 0x4034000000000000
 
@@ -121,13 +124,18 @@ vector x y = record { x = x; y = y }
 U : List Float
 U = f0 ∷ f0 ∷ f8 ∷ f0 ∷ f8 ∷ f2 ∷ f0 ∷ f2 ∷ []
 
+-- a circle at (x, y), contacts straight below and above on R and U: the lengths along are x and 18 - x
+upright : Float → Float → Float → Inscribed
+upright x y r = inscribed (point x y) r (point x f0) (point x f2) x (f18 -f x)
+
 -- a circle at (x, 1), "contacts straight below and above at y 0 and 2"
 circle : Float → Float → Inscribed
-circle x r = inscribed (point x f1) r (point x f0) (point x f2)
+unfolding upright
+circle x r = upright x f1 r
 
 -- what stands in a slot that isn't in use
 unused : Inscribed
-unused = inscribed (point f0 f0) f0 (point f0 f0) (point f0 f0)
+unused = inscribed (point f0 f0) f0 (point f0 f0) (point f0 f0) f0 f0
 
 -- P9's two circles, and with their contacts swapped
 pairOfU : List Float
@@ -135,11 +143,11 @@ unfolding circle
 pairOfU = allNumbers (circle f4 f1 ∷ circle f5 f1 ∷ [])
 
 swappedOfU : List Float
-swappedOfU = allNumbers (inscribed (point f4 f1) f1 (point f4 f2) (point f4 f0) ∷ inscribed (point f5 f1) f1 (point f5 f2) (point f5 f0) ∷ [])
+swappedOfU = allNumbers (inscribed (point f4 f1) f1 (point f4 f2) (point f4 f0) (f18 -f f4) f4 ∷ inscribed (point f5 f1) f1 (point f5 f2) (point f5 f0) (f18 -f f5) f5 ∷ [])
 
 -- P10's two circles, and in the other order
 atX : Float → Inscribed
-atX x = inscribed (point x f0) f1 (point x (neg f1)) (point x f1)
+atX x = inscribed (point x f0) f1 (point x (neg f1)) (point x f1) x (f18 -f x)
 
 onAxis : List Float
 unfolding atX
@@ -218,13 +226,13 @@ unfolding R line
 halvedTimes n = halving R (line f4 f0 f0 f2) (resolveTol f0·01) f2 n (firstEnds (point f4 f2) (point f4 f0))
 
 -- P5's crossing, general tolerance 0.01: "11 halvings, centre (4, 1.00048828125), radius 0.99951171875, contacts (4,0), (4,2)".
--- Eleven halvings give that circle, and ten another: the loop makes eleven. 02 (a): asked for by P5's line, the circle comes with edges 0 and 2.
+-- Eleven halvings give that circle, and ten another: the loop makes eleven. 02 (a): asked for by P5's line, the circle comes with edges 0 and 2; 02 (f): its contacts are at lengths 4 and 14.
 P7 : Row
-unfolding R line crossing halvedTimes
+unfolding R line crossing halvedTimes upright
 P7 =
     row {A = Answer CircleOnLine × List (Answer Inscribed)}
     (tryAsked R f0·001 f0·01 (line f4 f1 f0 f1), halvedTimes 11 ∷ halvedTimes 10 ∷ [])
-    (result (record { circle = inscribed (point f4 high) narrow (point f4 f0) (point f4 f2); edges = record { first = 0; second = 2 } }), result (inscribed (point f4 high) narrow (point f4 f0) (point f4 f2)) ∷ result (inscribed (point f4 higher) narrower (point f4 f0) (point f4 f2)) ∷ [])
+    (result (record { circle = upright f4 high narrow; edges = record { first = 0; second = 2 } }), result (upright f4 high narrow) ∷ result (upright f4 higher narrower) ∷ [])
 
 -- radii 1, 3, 3, 2: "thickest at 2"
 P8 : Row
@@ -242,13 +250,13 @@ unfolding onAxis turnedOnAxis vector
 P10 = row (fwdStore (Fwd (vector f1 f0)) onAxis 2 ∷ fwdStore (Airflow (vector f1 f0)) onAxis 2 ∷ []) (turnedOnAxis ∷ onAxis ∷ [])
 
 -- U, 0.01, circles centre (4,1), (5,1), radius 1, contacts straight below and above at y 0 and 2, front, limit 1:
--- "point (0, 1.00048828125), three circles, centre x 2, 4, 5, one unit"
+-- "point (0, 1.00048828125), three circles, centre x 2, 4, 5, one unit"; 02 (f): the new contacts are at lengths 2 and 16
 P11 : Row
-unfolding edgeOfU numbered fitRan circle
+unfolding edgeOfU numbered fitRan upright circle
 P11 =
     row
     (numbered (fitOf (edgeOfU true) 1))
-    (0, fitRan (ended (result (point f0 high))) 3 1 (inscribed (point f2 high) narrow (point f2 f0) (point f2 f2) ∷ circle f4 f1 ∷ circle f5 f1 ∷ []))
+    (0, fitRan (ended (result (point f0 high))) 3 1 (upright f2 high narrow ∷ circle f4 f1 ∷ circle f5 f1 ∷ []))
 
 -- "P11 at the back; P11 with limit 0": "20; 14, two circles"
 P12 : Row
@@ -264,9 +272,9 @@ table = P1 ∷ P2 ∷ P3 ∷ P4 ∷ P5 ∷ P6 ∷ P7 ∷ P8 ∷ P9 ∷ P10 ∷ P
 
 -- the rows that need no run, and those of the edge fit
 steps-hold : Holds (P1 ∷ P2 ∷ P3 ∷ P4 ∷ P5 ∷ P6 ∷ P7 ∷ P8 ∷ P9 ∷ P10 ∷ [])
-unfolding P1 P2 P3 P4 P5 P6 P7 P8 P9 P10 halvedTimes R U four two line crossing vector circle unused pairOfU swappedOfU atX onAxis turnedOnAxis edgeOfU numbered fitRan sqrtOf rootOfUnits wholeRoot rootDigits units size span climb odd trailingZeros ofBits ofFields round neg sum add sub mul div lt eq le
+unfolding P1 P2 P3 P4 P5 P6 P7 P8 P9 P10 halvedTimes R U four two line crossing vector upright circle unused pairOfU swappedOfU atX onAxis turnedOnAxis edgeOfU numbered fitRan sqrtOf rootOfUnits wholeRoot rootDigits units size span climb odd trailingZeros ofBits ofFields round neg sum add sub mul div lt eq le
     dotOf normOf difference normalized lineThrough atParam intersectionParam pointsOf plainDist isClosed lengthsFrom lengthsOf wholeLength badNumbers crowded notRising sectionEntry keptAfter kept lastOf endsMeet forcedClosed curveOf cleaned
-    edgesOf edgeHit hitsFrom inserted sortedInto neighbours nearbyNeighbour droppedAfter dropped spanOf spanned crossed crossingOf crossingWith edgeDirection meanDirection vertexDirection atVertex insideEdge atLengthFrom atLength atLengthAsked crossingAsked joinedAsked circleEntry tryAsked
+    edgesOf edgeHit hitsFrom inserted sortedInto neighbours nearbyNeighbour droppedAfter dropped spanOf spanned crossed crossingOf crossingWith edgeDirection meanDirection vertexDirection atVertex insideEdge atLengthFrom atLength lengthAlong lengthsAlong closestLengths atLengthAsked crossingAsked joinedAsked circleEntry tryAsked
     closestOnAll leastOf leastOfAll nearestOf fractionOn heldPoint measuredTo closestOnEdge lineProjection distOf movedEnds halved circleBetween halving halvedFrom fromLine
     camberPoint numbersOf circleFrom circlesFrom allNumbers stored badCircle anyBad midPointOf lineNormalized rayNormalized rayProjection atDistance shiftedRay halfwayRay circleOn tryInscribed judged triedOn trial
     next run whole withRoom afterTrial refineMove measure refineStep tmaxFrom tmax storeEntry tmaxAsked frontAndBack centerDot lessForward dirFwd voteOf votesFrom majority dirUpper orientEntry fwdAsked upperAsked lastPair middleLine facedLine clipLine endCamberRay
@@ -274,9 +282,9 @@ unfolding P1 P2 P3 P4 P5 P6 P7 P8 P9 P10 halvedTimes R U four two line crossing 
 steps-hold = (refl, (refl, (refl, (refl, (refl, (refl, (refl, (refl, (refl, (refl, tt))))))))))
 
 fits-hold : Holds (P11 ∷ P12 ∷ [])
-unfolding P11 P12 halvedTimes R U four two line crossing vector circle unused pairOfU swappedOfU atX onAxis turnedOnAxis edgeOfU numbered fitRan sqrtOf rootOfUnits wholeRoot rootDigits units size span climb odd trailingZeros ofBits ofFields round neg sum add sub mul div lt eq le
+unfolding P11 P12 halvedTimes R U four two line crossing vector upright circle unused pairOfU swappedOfU atX onAxis turnedOnAxis edgeOfU numbered fitRan sqrtOf rootOfUnits wholeRoot rootDigits units size span climb odd trailingZeros ofBits ofFields round neg sum add sub mul div lt eq le
     dotOf normOf difference normalized lineThrough atParam intersectionParam pointsOf plainDist isClosed lengthsFrom lengthsOf wholeLength badNumbers crowded notRising sectionEntry keptAfter kept lastOf endsMeet forcedClosed curveOf cleaned
-    edgesOf edgeHit hitsFrom inserted sortedInto neighbours nearbyNeighbour droppedAfter dropped spanOf spanned crossed crossingOf crossingWith edgeDirection meanDirection vertexDirection atVertex insideEdge atLengthFrom atLength atLengthAsked crossingAsked joinedAsked circleEntry tryAsked
+    edgesOf edgeHit hitsFrom inserted sortedInto neighbours nearbyNeighbour droppedAfter dropped spanOf spanned crossed crossingOf crossingWith edgeDirection meanDirection vertexDirection atVertex insideEdge atLengthFrom atLength lengthAlong lengthsAlong closestLengths atLengthAsked crossingAsked joinedAsked circleEntry tryAsked
     closestOnAll leastOf leastOfAll nearestOf fractionOn heldPoint measuredTo closestOnEdge lineProjection distOf movedEnds halved circleBetween halving halvedFrom fromLine
     camberPoint numbersOf circleFrom circlesFrom allNumbers stored badCircle anyBad midPointOf lineNormalized rayNormalized rayProjection atDistance shiftedRay halfwayRay circleOn tryInscribed judged triedOn trial
     next run whole withRoom afterTrial refineMove measure refineStep tmaxFrom tmax storeEntry tmaxAsked frontAndBack centerDot lessForward dirFwd voteOf votesFrom majority dirUpper orientEntry fwdAsked upperAsked lastPair middleLine facedLine clipLine endCamberRay

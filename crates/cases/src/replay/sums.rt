@@ -2,6 +2,7 @@
 use crate::asked;
 use crate::bits;
 use crate::buffers;
+use crate::cells::put;
 use crate::cells::word_at;
 use crate::samples;
 use crate::script;
@@ -54,6 +55,17 @@ fn ask_both(
     );
 }
 
+// Clears the lengths along of a circle that was put out: the published functions have none.
+fn clear_lengths(line: &[u8], out: &mut [f64]) {
+    match crate::replay::kind_of(word(line, 3)) {
+        23..=25 => {
+            put(out, samples::PUBLISHED, 0.0);
+            put(out, samples::PUBLISHED + 1, 0.0);
+        }
+        _ => {}
+    }
+}
+
 // Whether the input from the seed in word 1 has the answer whose checksum is word 2. An odd seed's profile goes without its first and its last point.
 pub(crate) fn sample(line: &[u8]) -> bool {
     let seed = whole(word(line, 1));
@@ -72,6 +84,7 @@ pub(crate) fn sample(line: &[u8]) -> bool {
         &mut out,
         &mut told,
     );
+    clear_lengths(line, &mut out);
     samples::checksum_of(&told, &out, &store) == whole(word(line, 2))
 }
 

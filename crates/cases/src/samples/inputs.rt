@@ -69,6 +69,8 @@ pub(crate) fn args(seed: u64) -> [f64; ARGUMENTS] {
         -1.0,
         g1,
         1.0 + g2,
+        g3,
+        g4,
         2.0 + g5 * 8.0,
         g4 - 0.5,
         g3,
@@ -76,5 +78,7 @@ pub(crate) fn args(seed: u64) -> [f64; ARGUMENTS] {
         -0.5 - g5,
         g2,
         1.0,
+        g5,
+        g1,
     ]
 }

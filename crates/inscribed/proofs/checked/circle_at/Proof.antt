@@ -26,6 +26,12 @@ add-i5 c = search needs
 add-i6 : tie.Need-add-i6
 add-i6 c = search needs
 
+add-i7 : tie.Need-add-i7
+add-i7 c = search needs
+
+add-i8 : tie.Need-add-i8
+add-i8 c = search needs
+
 mul-cx : tie.Need-mul-cx
 mul-cx c = search needs
 
@@ -68,6 +74,18 @@ mul-p1y c = search needs
 shared-slice-read-p1y : tie.Need-shared-slice-read-p1y
 shared-slice-read-p1y c = search needs
 
+mul-l0 : tie.Need-mul-l0
+mul-l0 c = search needs
+
+shared-slice-read-l0 : tie.Need-shared-slice-read-l0
+shared-slice-read-l0 c = search needs
+
+mul-l1 : tie.Need-mul-l1
+mul-l1 c = search needs
+
+shared-slice-read-l1 : tie.Need-shared-slice-read-l1
+shared-slice-read-l1 c = search needs
+
 returns : tie.Need-returns
 unfolding circleFrom
 returns c = refl
@@ -83,6 +101,8 @@ circle-at-spec =
     add-i4
     add-i5
     add-i6
+    add-i7
+    add-i8
     mul-cx
     shared-slice-read-cx
     mul-cy
@@ -97,4 +117,8 @@ circle-at-spec =
     shared-slice-read-p1x
     mul-p1y
     shared-slice-read-p1y
+    mul-l0
+    shared-slice-read-l0
+    mul-l1
+    shared-slice-read-l1
     returns)

@@ -27,6 +27,12 @@ add-i5 c = search needs
 add-i6 : tie.Need-add-i6
 add-i6 c = search needs
 
+add-i7 : tie.Need-add-i7
+add-i7 c = search needs
+
+add-i8 : tie.Need-add-i8
+add-i8 c = search needs
+
 mul-store : tie.Need-mul-store
 mul-store c = search needs
 
@@ -69,6 +75,18 @@ mul-store-7 c = search needs
 slice-write-store-7 : tie.Need-slice-write-store-7
 slice-write-store-7 c = simp length-set (omega arith)
 
+mul-store-8 : tie.Need-mul-store-8
+mul-store-8 c = search needs
+
+slice-write-store-8 : tie.Need-slice-write-store-8
+slice-write-store-8 c = simp length-set (omega arith)
+
+mul-store-9 : tie.Need-mul-store-9
+mul-store-9 c = search needs
+
+slice-write-store-9 : tie.Need-slice-write-store-9
+slice-write-store-9 c = simp length-set (omega arith)
+
 same-length : tie.Need-same-length
 same-length c = search needs
 
@@ -86,6 +104,8 @@ put-circle-spec =
     add-i4
     add-i5
     add-i6
+    add-i7
+    add-i8
     mul-store
     slice-write-store
     mul-store-2
@@ -100,5 +120,9 @@ put-circle-spec =
     slice-write-store-6
     mul-store-7
     slice-write-store-7
+    mul-store-8
+    slice-write-store-8
+    mul-store-9
+    slice-write-store-9
     same-length
     returns)
