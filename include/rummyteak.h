@@ -11,6 +11,7 @@
  * without one points to as many as its comment says. What is written overlaps nothing else that is handed in.
  *
  * Points are x, y, x, y and so on, in millimetres; a length counts numbers, not points. A line is an origin and a direction.
+ * Lengths of bytes count bytes.
  * A circle is RUMMYTEAK_WIDTH numbers: centre x, y, radius, contact p0 x, y, contact p1 x, y, and the lengths along of the
  * section's nearest points to p0 and to p1. A store is a slice of circles packed from its start; it holds its length /
  * RUMMYTEAK_WIDTH, and at most RUMMYTEAK_SLOTS.
@@ -32,6 +33,8 @@ extern "C" {
 /* Points of a section, and of what is cleaned or cut, at most. */
 #define RUMMYTEAK_POINTS 4096
 #define RUMMYTEAK_CLEANED 4095
+/* Bytes that are shuffled, at most: 9,216 numbers of eight. */
+#define RUMMYTEAK_BYTES 73728
 /* The largest limit: no limit is felt. */
 #define RUMMYTEAK_NO_LIMIT UINT32_MAX
 
@@ -83,7 +86,9 @@ enum rummyteak_ending {
     /* a split asked of the wrong kind of section: an open one of a closed section, or the other way round */
     RUMMYTEAK_WRONG_KIND = 22,
     /* a run with a general tolerance smaller than its section tolerance; tested straight after 3 */
-    RUMMYTEAK_FINER_THAN_SECTION = 23
+    RUMMYTEAK_FINER_THAN_SECTION = 23,
+    /* bytes of stored numbers: a count that isn't a multiple of eight, or is above 73,728 */
+    RUMMYTEAK_BYTE_COUNT = 26
 };
 
 /* ---- the square root */
@@ -235,6 +240,14 @@ uint32_t rummyteak_is_open_at_end(const double *section, size_t section_len, dou
 uint32_t rummyteak_fit_open_edge(const double *section, size_t section_len, double section_tol, double tol,
                                  double *store, size_t store_len, size_t stated, bool at_front, uint32_t limit,
                                  double *point, size_t *count, uint32_t *units);
+
+/* ---- stored numbers as bytes, eight to a number, into out (as many bytes at least) */
+
+/* Sorted by byte place, which archives store better: byte i of number k of n goes to place i * n + k. */
+uint32_t rummyteak_shuffle(const uint8_t *bytes, size_t bytes_len, uint8_t *out, size_t out_len);
+
+/* Back: byte i of number k of n comes from place i * n + k. */
+uint32_t rummyteak_unshuffle(const uint8_t *bytes, size_t bytes_len, uint8_t *out, size_t out_len);
 
 #ifdef __cplusplus
 }

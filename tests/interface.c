@@ -394,6 +394,72 @@ static void edges(void)
     release(r), release(closed), release(store), release(point);
 }
 
+/* A buffer of n bytes, as `marked` lends them; release_bytes gives it back. Where n isn't a multiple of eight, marks stand
+ * behind it too. */
+static uint8_t *marked_bytes(size_t n)
+{
+    return (uint8_t *)marked((n + 7) / 8);
+}
+
+static void release_bytes(uint8_t *p)
+{
+    release((double *)(void *)p);
+}
+
+/* Whether the bytes from `from` to `to` of a buffer are still marks. */
+static bool untouched_bytes(const uint8_t *p, size_t from, size_t to)
+{
+    uint8_t mark[8];
+    memcpy(mark, &MARK, 8);
+    for (size_t i = from; i < to; i++)
+        if (p[i] != mark[i % 8])
+            return false;
+    return true;
+}
+
+/* Byte p, so that no two neighbours and no two of a column are the same by chance. */
+static uint8_t byte_at(size_t p)
+{
+    return (uint8_t)(p * 37 + p / 256 * 11 + 5);
+}
+
+/* n numbers there and back, each into an output that is `more` bytes longer. */
+static void shuffled(size_t n, size_t more)
+{
+    size_t len = 8 * n, room = len + more;
+    uint8_t *bytes = marked_bytes(len), *sorted = marked_bytes(room), *back = marked_bytes(room);
+    for (size_t p = 0; p < len; p++)
+        bytes[p] = byte_at(p);
+    EXPECT(rummyteak_shuffle(bytes, len, sorted, room) == 0);
+    EXPECT(rummyteak_unshuffle(sorted, len, back, room) == 0);
+    bool there = true;
+    for (size_t k = 0; k < n; k++)
+        for (size_t i = 0; i < 8; i++)
+            there = there && sorted[i * n + k] == byte_at(8 * k + i);
+    EXPECT(there && memcmp(bytes, back, len) == 0);
+    size_t end = (room + 7) / 8 * 8;
+    EXPECT(untouched_bytes(sorted, len, end) && untouched_bytes(back, len, end));
+    release_bytes(bytes), release_bytes(sorted), release_bytes(back);
+}
+
+static void stored_bytes(void)
+{
+    static const size_t counts[] = {0, 1, 2, 7, 8, 9, 15, 16, 17, 9216};
+    for (size_t k = 0; k < sizeof counts / sizeof *counts; k++)
+        shuffled(counts[k], 0), shuffled(counts[k], 1), shuffled(counts[k], 9);
+    EXPECT(rummyteak_shuffle(NULL, 0, NULL, 0) == 0 && rummyteak_unshuffle(NULL, 0, NULL, 0) == 0);
+    uint8_t *bytes = marked_bytes(RUMMYTEAK_BYTES + 8), *out = marked_bytes(RUMMYTEAK_BYTES + 8), *none = marked_bytes(0);
+    EXPECT(rummyteak_shuffle(bytes, RUMMYTEAK_BYTES + 8, out, RUMMYTEAK_BYTES + 8) == 26);
+    EXPECT(rummyteak_unshuffle(bytes, RUMMYTEAK_BYTES + 8, out, RUMMYTEAK_BYTES + 8) == 26);
+    EXPECT(rummyteak_shuffle(bytes, 15, out, 15) == 26 && rummyteak_unshuffle(bytes, 15, out, 15) == 26);
+    EXPECT(rummyteak_shuffle(bytes, 1, none, 0) == 26 && rummyteak_unshuffle(bytes, 1, none, 0) == 26);
+    EXPECT(rummyteak_shuffle(bytes, 16, out, 15) == 4 && rummyteak_unshuffle(bytes, 16, out, 15) == 4);
+    EXPECT(rummyteak_shuffle(bytes, RUMMYTEAK_BYTES, out, RUMMYTEAK_BYTES - 1) == 4);
+    EXPECT(rummyteak_unshuffle(bytes, RUMMYTEAK_BYTES, none, 0) == 4);
+    EXPECT(untouched_bytes(out, 0, RUMMYTEAK_BYTES + 8));
+    release_bytes(bytes), release_bytes(out), release_bytes(none);
+}
+
 int main(void)
 {
     roots();
@@ -406,6 +472,7 @@ int main(void)
     curves();
     orientation();
     edges();
+    stored_bytes();
     printf("C interface: %d checks, %d wrong\n", checks, wrong);
     return wrong != 0;
 }

@@ -20,6 +20,9 @@ from rummyteak._library import _arguments, call  # noqa: E402
 # Checksums over generated inputs, and single steps that the C interface doesn't have.
 LEFT_OUT = {"sample", "roots", "rot90", "normalize", "halfway", "intersection_param", "closest_on_edge", "end_camber_ray", "isqrt_u64", "isqrt_u32", "index_of_tmax_of"}
 
+# The table speaks of numbers: what is asked of bytes stands in test_rummyteak.py and in interface.c.
+ON_BYTES = {"shuffle", "unshuffle"}
+
 # The table's short names.
 NAMES = {name[len("orient_") :]: name for name in _arguments if name.startswith("orient_")}
 
@@ -314,8 +317,8 @@ def answered(name: str, answer):
 
 class Cases(unittest.TestCase):
     def test_names(self):
-        self.assertEqual(set(IN_C), set(_arguments))
-        self.assertEqual(set(IN_PYTHON), set(_arguments))
+        self.assertEqual(set(IN_C), set(_arguments) - ON_BYTES)
+        self.assertEqual(set(IN_PYTHON), set(_arguments) - ON_BYTES)
 
     def test_table(self):
         table, case, asked, passed, lines = Table(), "", set(), False, 0
@@ -335,7 +338,7 @@ class Cases(unittest.TestCase):
             lines += 1
             with self.subTest(case=case, line=at):
                 self.assertTrue(table.line(words), text)
-        self.assertEqual(asked, set(_arguments), "the table asks every function")
+        self.assertEqual(asked, set(_arguments) - ON_BYTES, "the table asks every function")
         self.assertGreater(lines, 1000)
 
 

@@ -23,6 +23,7 @@ ROOT = Path(__file__).resolve().parents[1]
 sys.path.insert(0, str(ROOT / "python"))
 
 import rummyteak as rt  # noqa: E402
+from rummyteak._library import call  # noqa: E402
 from rummyteak.files import read  # noqa: E402
 from rummyteak.report import ADVICE  # noqa: E402
 
@@ -142,6 +143,30 @@ class Rows(unittest.TestCase):
         self.refused(23, rt.fit_open_edge, U, G, T, PAIR, True)
         self.assertTrue(rt.is_open_at_end(U, G, T, PAIR, True))
 
+    def test_bytes(self):
+        for n in (0, 1, 2, 7, 8, 9, 15, 16, 17, 9216):
+            with self.subTest(n=n):
+                data = bytes((37 * p + 11 * (p // 256) + 5) % 256 for p in range(8 * n))
+                wanted = bytes(data[8 * k + i] for i in range(8) for k in range(n))
+                self.assertEqual(rt.shuffle(data), wanted)
+                self.assertEqual(rt.unshuffle(wanted), data)
+                self.assertTrue(n > 1 or wanted == data)
+                for function in (rt.shuffle, rt.unshuffle):
+                    out = (ctypes.c_uint8 * (8 * n + 1))(*([77] * (8 * n + 1)))
+                    given = (ctypes.c_uint8 * (8 * n))(*data)
+                    self.assertEqual(call(function.__name__, given, 8 * n, out, 8 * n + 1), 0)
+                    self.assertEqual(bytes(out), function(data) + b"M", "a longer output keeps its rest")
+                    out = (ctypes.c_uint8 * (8 * n + 1))(*([77] * (8 * n + 1)))
+                    if n:
+                        self.assertEqual(call(function.__name__, given, 8 * n, out, 8 * n - 1), 4)
+                    self.assertEqual(call(function.__name__, given, 8 * n - 1 if n else 1, out, 0), 26, "tested first")
+                    self.assertEqual(bytes(out), b"M" * (8 * n + 1))
+        numbers = array("d", [x for c in PAIR for x in c])
+        self.assertEqual(rt.unshuffle(bytearray(rt.shuffle(numbers))), bytes(numbers))
+        for function in (rt.shuffle, rt.unshuffle):
+            for size in (1, 7, 9, 73727, 73729, 73736):
+                self.refused(26, function, bytes(size))
+
     def test_limits(self):
         plain = rt.march(R, T, G, (4, 1, 0, 1))
         for limit in range(plain.units + 2):
@@ -210,6 +235,8 @@ class Types(unittest.TestCase):
             (ValueError, rt.march, R, T, G, (4, 1, 0, 1), 5, -1),
             (ValueError, rt.index_of_tmax, [(4, 1, 1)]),
             (ValueError, rt.make_camber_curve, (0, 1, 2), (8, 1), PAIR, T),
+            (TypeError, rt.shuffle, [0] * 8),
+            (ValueError, rt.unshuffle, memoryview(bytes(32))[::2]),
         ):
             with self.subTest(function=function.__name__, args=args):
                 with self.assertRaises(error) as caught:
@@ -257,6 +284,7 @@ class Header(unittest.TestCase):
         self.assertEqual((self.defined("RUMMYTEAK_WIDTH"), rt.WIDTH), (width, width))
         self.assertEqual((self.defined("RUMMYTEAK_SLOTS"), rt.SLOTS), (slots, slots))
         self.assertEqual((self.defined("RUMMYTEAK_POINTS"), self.defined("RUMMYTEAK_CLEANED")), (points, points - 1))
+        self.assertEqual(self.defined("RUMMYTEAK_BYTES"), self.constant("MOST_BYTES", "shuffle", "src", "lib.rt"))
 
     def test_endings(self):
         cases = {int(n): name for name, n in re.findall(r"Refusal::(\w+) => (\d+),", self.source("errors", "src", "lib.rt"))}

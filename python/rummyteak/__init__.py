@@ -5,7 +5,8 @@ extract_circles, fit_open_edge) that began returns its circles whichever way it 
 
 Points, and a section, may be a list of pairs, a flat list of numbers, a Curve2, or anything with the buffer protocol, flat or of pairs. A buffer of
 contiguous float64 numbers (an array.array('d'), a numpy array) is read where it stands, and copied only where it is read-only; another one is converted.
-Circles are any sequence of Inscribed. A number of a wrong type is a TypeError, a whole number out of its range or points that are no pairs a ValueError.
+Circles are any sequence of Inscribed. Bytes are
+anything contiguous with the buffer protocol, copied only where it is read-only. A number of a wrong type is a TypeError, a whole number out of its range or points that are no pairs a ValueError.
 
 No call holds state, and other threads run while the library works.
 """
@@ -27,6 +28,7 @@ __all__ = [
     "refine_and_push", "march", "extract_circles", "front_and_back", "index_of_tmax", "average_spacing", "end_clip_line",
     "reverse_points", "reverse_order_only", "reverse_order", "circles_from", "camber_curve", "make_camber_curve",
     "orient_tmax_fwd", "orient_airflow", "orient_fwd", "orient_curvature", "orient_upper", "orient_lower", "is_open_at_end", "fit_open_edge",
+    "shuffle", "unshuffle",
 ]
 
 
@@ -609,3 +611,31 @@ def fit_open_edge(
     point = (ctypes.c_double * 2)()
     run = _run("fit_open_edge", store, p, len(p), section_tol, tol, store, len(store), len(circles), at_front, limit, point)
     return Fit(run.number, (point[0], point[1]) if run.number == 0 else None, run.circles, run.units)
+
+
+# ---- stored numbers as bytes
+
+
+def _rearranged(name: str, data: Any) -> bytes:
+    try:
+        view = memoryview(data)
+    except TypeError:
+        raise TypeError(f"{name}: bytes, or a buffer of numbers, not {data!r}") from None
+    if not view.c_contiguous:
+        raise ValueError(f"{name}: the buffer isn't contiguous")
+    size = view.nbytes
+    array_type = ctypes.c_uint8 * size
+    given = array_type.from_buffer_copy(view) if view.readonly or not size else array_type.from_buffer(view)
+    out = array_type()
+    _ask(name, given, size, out, size)
+    return bytes(out)
+
+
+def shuffle(data: Any) -> bytes:
+    """Numbers of eight bytes, sorted by byte place: byte i of number k of n goes to place i × n + k."""
+    return _rearranged("shuffle", data)
+
+
+def unshuffle(data: Any) -> bytes:
+    """The inverse of shuffle: byte i of number k of n comes from place i × n + k."""
+    return _rearranged("unshuffle", data)

@@ -38,6 +38,7 @@ WORDS = {
     21: "the stretch is empty: its lengths are too near, its end lies before its start, or under two points remain",
     22: "the split is for the other kind of section, open or closed",
     23: "the general tolerance is smaller than the section tolerance",
+    26: "the bytes are no whole numbers of eight, or more than 9,216 of them",
 }
 
 
@@ -53,6 +54,7 @@ _loaded: Any = None
 d, n, b, u = ctypes.c_double, ctypes.c_size_t, ctypes.c_bool, ctypes.c_uint32
 P, N, B, U = ctypes.POINTER(d), ctypes.POINTER(n), ctypes.POINTER(b), ctypes.POINTER(u)
 _slice = [P, n]
+_bytes = [ctypes.c_void_p, n]
 _line = [d, d, d, d]
 
 _arguments = {
@@ -96,6 +98,8 @@ _arguments = {
     "orient_lower": [d, d, *_slice, n, B],
     "is_open_at_end": [*_slice, d, d, *_slice, n, b, B],
     "fit_open_edge": [*_slice, d, d, *_slice, n, b, u, P, N, U],
+    "shuffle": [*_bytes, *_bytes],
+    "unshuffle": [*_bytes, *_bytes],
 }
 
 

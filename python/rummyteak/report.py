@@ -39,6 +39,7 @@ ADVICE = {
     21: "hand in lengths farther apart, the smaller one first where the section is open",
     22: "ask for the split of the other kind of section",
     23: "hand in a --tol no smaller than --section-tol",
+    26: "hand in eight bytes for each number, and 9,216 numbers at most",
 }
 
 

@@ -3,7 +3,7 @@ use mathlib.Core.Path.{_≡_, refl, sym, _∙_}
 use native.Mathlib.Omega.{arith}
 use Rattle.errors.specs.Answer.{Answer, result, refusal, _>>=_, numberOf}
 use Rattle.errors.specs.declared.Refusal.{Refusal}
-use Rattle.errors.specs.declared.Refusal.the-variants.{PointCount, BadNumber, Tolerance, NoRoom, TooFewKept, NotSpaced, TooFewCircles, NoCrossing, OffCurve, TooLong, ZeroLength, NotFinite, NoAdvance, StoreFull, StackFull, ClosedSection, GapBehind, GapParallel, GapMissed, EmptyStretch, WrongKind, FinerThanSection}
+use Rattle.errors.specs.declared.Refusal.the-variants.{PointCount, BadNumber, Tolerance, NoRoom, TooFewKept, NotSpaced, TooFewCircles, NoCrossing, OffCurve, TooLong, ZeroLength, NotFinite, NoAdvance, StoreFull, StackFull, ClosedSection, GapBehind, GapParallel, GapMissed, EmptyStretch, WrongKind, FinerThanSection, ByteCount}
 
 -- r is what the call gives, d what its definition says, t how the test went
 pub told : {A : Type 0} {r d t : A} → r ≡ d → r ≡ t → d ≡ t
@@ -39,6 +39,7 @@ not-0 GapMissed p = omega (arith, p)
 not-0 EmptyStretch p = omega (arith, p)
 not-0 WrongKind p = omega (arith, p)
 not-0 FinerThanSection p = omega (arith, p)
+not-0 ByteCount p = omega (arith, p)
 
 pub not-14 : (r : Refusal) → numberOf r ≡ 14 → ⊥
 not-14 PointCount p = omega (arith, p)
@@ -63,3 +64,4 @@ not-14 GapMissed p = omega (arith, p)
 not-14 EmptyStretch p = omega (arith, p)
 not-14 WrongKind p = omega (arith, p)
 not-14 FinerThanSection p = omega (arith, p)
+not-14 ByteCount p = omega (arith, p)

@@ -7,7 +7,7 @@ use lib.Ieee.Scale.{finite}
 use Rattle.errors.specs.declared.Refusal.{Refusal}
 use Rattle.errors.specs.declared.ScalarAnswer.{ScalarAnswer}
 use Rattle.errors.specs.declared.ScalarAnswer.the-variants.{Value, Refused}
-use Rattle.errors.specs.declared.Refusal.the-variants.{PointCount, BadNumber, Tolerance, NoRoom, TooFewKept, NotSpaced, TooFewCircles, NoCrossing, OffCurve, TooLong, ZeroLength, NotFinite, NoAdvance, StoreFull, StackFull, ClosedSection, GapBehind, GapParallel, GapMissed, EmptyStretch, WrongKind, FinerThanSection}
+use Rattle.errors.specs.declared.Refusal.the-variants.{PointCount, BadNumber, Tolerance, NoRoom, TooFewKept, NotSpaced, TooFewCircles, NoCrossing, OffCurve, TooLong, ZeroLength, NotFinite, NoAdvance, StoreFull, StackFull, ClosedSection, GapBehind, GapParallel, GapMissed, EmptyStretch, WrongKind, FinerThanSection, ByteCount}
 
 pub data Answer (A : Type 0) : Type 0 where
   result : A → Answer A
@@ -48,6 +48,7 @@ numberOf GapMissed = 20
 numberOf EmptyStretch = 21
 numberOf WrongKind = 22
 numberOf FinerThanSection = 23
+numberOf ByteCount = 26
 
 -- the number of an answer: 0 for a result
 abbrev pub number : {A : Type 0} → Answer A → ℕ

@@ -51,6 +51,8 @@ pub enum Refusal {
     WrongKind,
     // 23: a general tolerance smaller than the section tolerance.
     FinerThanSection,
+    // 26: a byte count that isn't a multiple of eight, or is above 73,728.
+    ByteCount,
 }
 
 // A number, or why there is none.
@@ -86,6 +88,7 @@ pub fn number(refusal: Refusal) -> u32
         Refusal::EmptyStretch => 21,
         Refusal::WrongKind => 22,
         Refusal::FinerThanSection => 23,
+        Refusal::ByteCount => 26,
     }
 }
 

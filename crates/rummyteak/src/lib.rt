@@ -1,5 +1,6 @@
 // The C interface: one function for each entry point of the library. Each returns document 01's or 02's number of its ending, 0 for a result, and writes its values only where there is a result;
 // a run writes its count and its units wherever it was not refused on entry.
+pub mod bytes;
 pub mod circle;
 pub mod curve;
 pub mod edge;

@@ -1,0 +1,51 @@
+-- `shuffle` makes the entry tests, and moves the numbers. Assumes nothing.
+use Prim.Native.Nat.{_/_}
+use mathlib.Core.Path.{sym}
+use native.Mathlib.Omega.{arith}
+use borrow.Author.Needs.{needs}
+use lib.ListN.{length}
+use Rattle.shuffle.specs.Shuffle.{shuffled}
+use Rattle.shuffle.proofs.EntryLaws.{has-room, within-more, together-within, sorted-within, sorted-apart, rearranged-passed, rearranged-refused, shuffled-moved}
+use Rattle.shuffle.proofs.shuffle.Statement.{statement}
+use Rattle.shuffle.proofs.shuffle.Tie as tie
+
+entered-requires : tie.Need-entered-requires
+entered-requires c κs = search needs
+
+enum-told : tie.Need-enum-told
+enum-told c = search needs
+
+move-numbers-requires : tie.Need-move-numbers-requires
+move-numbers-requires c κs =
+    let start = c .before .before .before .before .before .before in
+    let n = length (start .args .input .now) / 8 in
+    let passed = rw (c .before .enum-told .given .1) at (c .before .before .before .entered .ensures) in
+    let room = has-room (length (start .args .input .now)) (length (start .args .out .now)) (sym passed) in
+    (within-more _ n _ (omega arith) (together-within n), (within-more _ n _ (omega (arith, room)) (sorted-within n), sorted-apart n))
+
+enum-known-r : tie.Need-enum-known-r
+enum-known-r c = search needs
+
+same-length : tie.Need-same-length
+same-length c = search needs
+
+returns : tie.Need-returns
+returns c =
+    let passed = rw (c .before .before .before .before .enum-told .given .1) at (c .before .before .before .before .before .before .entered .ensures) in
+    let moved = c .before .before .move-numbers in
+    rearranged-passed shuffled _ _ _ passed (shuffled-moved _ _ _ (sym passed) (moved .kept .1 .1 .1 .0) (moved .ensures))
+
+returns-2 : tie.Need-returns-2
+returns-2 c = rearranged-refused shuffled _ _ _ (rw (c .before .r .given .1) at (c .before .before .before .entered .ensures))
+
+pub shuffle-spec : {M : Type 1} → statement M
+shuffle-spec =
+    tie.close
+    (tie.spec
+    entered-requires
+    enum-told
+    move-numbers-requires
+    enum-known-r
+    same-length
+    returns
+    returns-2)

@@ -1,0 +1,3 @@
+-- Stored numbers sorted by byte place, and back.
+pub mod Shuffle
+pub mod Code
