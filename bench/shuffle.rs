@@ -1,4 +1,4 @@
-// The C interface's `shuffle` and `unshuffle` beside plain Rust of the same, with the same tests: byte after byte. All get the same 9,216 numbers, in turn, round
+// The C interface's `shuffle` and `unshuffle` beside plain Rust of the same, with the same tests: byte after byte, as the port did it before 02 (i), and eight numbers at a time by the same turn. All get the same 9,216 numbers, in turn, round
 // after round in one run, and must give the same bytes; the least time counts.
 // `shuffle` prints times; `shuffle once` runs everything once through `counted`, for callgrind, and says in which order.
 use std::hint::black_box;
@@ -61,6 +61,77 @@ fn bytes_unshuffle(bytes: &[u8], out: &mut [u8]) -> u32 {
     0
 }
 
+// Eight numbers at a time by the turn of eight words, the rest byte after byte.
+
+fn exchanged(a: u64, b: u64, shift: u32, mask: u64) -> (u64, u64) {
+    let apart = ((a >> shift) ^ b) & mask;
+    (a ^ (apart << shift), b ^ apart)
+}
+
+fn turned(w: [u64; 8]) -> [u64; 8] {
+    let [w0, w1, w2, w3, w4, w5, w6, w7] = w;
+    let (w0, w4) = exchanged(w0, w4, 32, 0x0000_0000_ffff_ffff);
+    let (w1, w5) = exchanged(w1, w5, 32, 0x0000_0000_ffff_ffff);
+    let (w2, w6) = exchanged(w2, w6, 32, 0x0000_0000_ffff_ffff);
+    let (w3, w7) = exchanged(w3, w7, 32, 0x0000_0000_ffff_ffff);
+    let (w0, w2) = exchanged(w0, w2, 16, 0x0000_ffff_0000_ffff);
+    let (w1, w3) = exchanged(w1, w3, 16, 0x0000_ffff_0000_ffff);
+    let (w4, w6) = exchanged(w4, w6, 16, 0x0000_ffff_0000_ffff);
+    let (w5, w7) = exchanged(w5, w7, 16, 0x0000_ffff_0000_ffff);
+    let (w0, w1) = exchanged(w0, w1, 8, 0x00ff_00ff_00ff_00ff);
+    let (w2, w3) = exchanged(w2, w3, 8, 0x00ff_00ff_00ff_00ff);
+    let (w4, w5) = exchanged(w4, w5, 8, 0x00ff_00ff_00ff_00ff);
+    let (w6, w7) = exchanged(w6, w7, 8, 0x00ff_00ff_00ff_00ff);
+    [w0, w1, w2, w3, w4, w5, w6, w7]
+}
+
+fn word_at(bytes: &[u8], at: usize) -> u64 {
+    u64::from_le_bytes(bytes[at..at + 8].try_into().unwrap())
+}
+
+#[inline(never)]
+fn words_shuffle(bytes: &[u8], out: &mut [u8]) -> u32 {
+    let ending = tested(bytes, out);
+    if ending != 0 {
+        return ending;
+    }
+    let n = bytes.len() / 8;
+    let out = &mut out[..8 * n];
+    for g in 0..n / 8 {
+        let words = turned(std::array::from_fn(|j| word_at(bytes, 64 * g + 8 * j)));
+        for (i, word) in words.iter().enumerate() {
+            out[i * n + 8 * g..i * n + 8 * g + 8].copy_from_slice(&word.to_le_bytes());
+        }
+    }
+    for k in n / 8 * 8..n {
+        for i in 0..8 {
+            out[i * n + k] = bytes[8 * k + i];
+        }
+    }
+    0
+}
+
+#[inline(never)]
+fn words_unshuffle(bytes: &[u8], out: &mut [u8]) -> u32 {
+    let ending = tested(bytes, out);
+    if ending != 0 {
+        return ending;
+    }
+    let n = bytes.len() / 8;
+    for g in 0..n / 8 {
+        let words = turned(std::array::from_fn(|i| word_at(bytes, i * n + 8 * g)));
+        for (j, word) in words.iter().enumerate() {
+            out[64 * g + 8 * j..64 * g + 8 * j + 8].copy_from_slice(&word.to_le_bytes());
+        }
+    }
+    for k in n / 8 * 8..n {
+        for i in 0..8 {
+            out[8 * k + i] = bytes[i * n + k];
+        }
+    }
+    0
+}
+
 // ---- times
 
 // All that is timed goes through here, and callgrind counts what is done within.
@@ -107,9 +178,9 @@ fn main() {
     let bytes: Vec<u8> = (0..NUMBERS).flat_map(|k| (1.0 + k as f64 / 7.0).sqrt().to_le_bytes()).collect();
     if !once {
         println!("ns a number; the ratios are the port's time by the others'");
-        println!("{:<34}{:>13}{:>13}{:>13}", "", "port", "bytes", "/bytes");
+        println!("{:<34}{:>13}{:>13}{:>13}{:>13}{:>13}", "", "port", "bytes", "words", "/bytes", "/words");
     }
-    let sorted = run_row("shuffle", &bytes, &[port_shuffle, bytes_shuffle], once);
-    let back = run_row("unshuffle", &sorted, &[port_unshuffle, bytes_unshuffle], once);
+    let sorted = run_row("shuffle", &bytes, &[port_shuffle, bytes_shuffle, words_shuffle], once);
+    let back = run_row("unshuffle", &sorted, &[port_unshuffle, bytes_unshuffle, words_unshuffle], once);
     assert!(back == bytes);
 }

@@ -249,6 +249,10 @@ uint32_t rummyteak_shuffle(const uint8_t *bytes, size_t bytes_len, uint8_t *out,
 /* Back: byte i of number k of n comes from place i * n + k. */
 uint32_t rummyteak_unshuffle(const uint8_t *bytes, size_t bytes_len, uint8_t *out, size_t out_len);
 
+/* The turn by which both move eight numbers at a time: of 8 words, byte i of word k, counted from the least significant,
+ * becomes byte k of word i. It refuses nothing. */
+uint32_t rummyteak_transpose_words(uint64_t *words);
+
 #ifdef __cplusplus
 }
 #endif

@@ -442,6 +442,43 @@ static void shuffled(size_t n, size_t more)
     release_bytes(bytes), release_bytes(sorted), release_bytes(back);
 }
 
+/* Byte b at place i of word k, and no other, is turned to place k of word i. */
+static void turned(size_t k, size_t i, uint64_t b)
+{
+    uint64_t *words = (uint64_t *)(void *)marked(8);
+    memset(words, 0, 64);
+    words[k] = b << 8 * i;
+    EXPECT(rummyteak_transpose_words(words) == 0);
+    bool right = true;
+    for (size_t j = 0; j < 8; j++)
+        right = right && words[j] == (j == i ? b << 8 * k : 0);
+    EXPECT(right);
+    release((double *)(void *)words);
+}
+
+static void all_turns(void)
+{
+    for (size_t k = 0; k < 8; k++)
+        for (size_t i = 0; i < 8; i++)
+            turned(k, i, 0x81), turned(k, i, 0xff);
+    uint64_t words[8], twice[8];
+    uint8_t bytes[64], sorted[64];
+    for (size_t p = 0; p < 64; p++)
+        bytes[p] = byte_at(p);
+    for (size_t k = 0; k < 8; k++) {
+        words[k] = 0;
+        for (size_t i = 0; i < 8; i++)
+            words[k] |= (uint64_t)bytes[8 * k + i] << 8 * i;
+    }
+    memcpy(twice, words, 64);
+    EXPECT(rummyteak_transpose_words(words) == 0 && rummyteak_shuffle(bytes, 64, sorted, 64) == 0);
+    bool same_bytes = true;
+    for (size_t p = 0; p < 64; p++)
+        same_bytes = same_bytes && (uint8_t)(words[p / 8] >> 8 * (p % 8)) == sorted[p];
+    EXPECT(same_bytes);
+    EXPECT(rummyteak_transpose_words(words) == 0 && memcmp(words, twice, 64) == 0);
+}
+
 static void stored_bytes(void)
 {
     static const size_t counts[] = {0, 1, 2, 7, 8, 9, 15, 16, 17, 9216};
@@ -473,6 +510,7 @@ int main(void)
     orientation();
     edges();
     stored_bytes();
+    all_turns();
     printf("C interface: %d checks, %d wrong\n", checks, wrong);
     return wrong != 0;
 }

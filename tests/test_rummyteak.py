@@ -31,6 +31,8 @@ R = [0, 0, 8, 0, 8, 2, 0, 2, 0, 0]
 U = R[:8]
 T, G = 0.001, 0.01
 PAIR = (rt.Inscribed(4, 1, 1, 4, 0, 4, 2, 4, 14), rt.Inscribed(5, 1, 1, 5, 0, 5, 2, 5, 13))
+# What has a result on every input.
+REFUSE_NOTHING = {"transpose_words"}
 UNIT = rt.Inscribed(4, 1.00048828125, 0.99951171875, 4, 0, 4, 2, 4, 14)
 
 
@@ -167,6 +169,19 @@ class Rows(unittest.TestCase):
             for size in (1, 7, 9, 73727, 73729, 73736):
                 self.refused(26, function, bytes(size))
 
+    def test_words(self):
+        for k in range(8):
+            for i in range(8):
+                for byte in (1, 0x80, 0xFF):
+                    words = [byte << 8 * i if j == k else 0 for j in range(8)]
+                    wanted = tuple(byte << 8 * k if j == i else 0 for j in range(8))
+                    self.assertEqual(rt.transpose_words(words), wanted)
+        words = [int.from_bytes(bytes((8 * k + i) * 37 % 256 for i in range(8)), "little") for k in range(8)]
+        turned = rt.transpose_words(words)
+        self.assertEqual(b"".join(w.to_bytes(8, "little") for w in turned), rt.shuffle(b"".join(w.to_bytes(8, "little") for w in words)))
+        self.assertEqual(rt.transpose_words(turned), tuple(words))
+        self.assertEqual(rt.transpose_words([2**64 - 1] * 8), (2**64 - 1,) * 8)
+
     def test_limits(self):
         plain = rt.march(R, T, G, (4, 1, 0, 1))
         for limit in range(plain.units + 2):
@@ -236,6 +251,9 @@ class Types(unittest.TestCase):
             (ValueError, rt.index_of_tmax, [(4, 1, 1)]),
             (ValueError, rt.make_camber_curve, (0, 1, 2), (8, 1), PAIR, T),
             (TypeError, rt.shuffle, [0] * 8),
+            (ValueError, rt.transpose_words, [0] * 7),
+            (ValueError, rt.transpose_words, [2**64] * 8),
+            (TypeError, rt.transpose_words, [1.0] * 8),
             (ValueError, rt.unshuffle, memoryview(bytes(32))[::2]),
         ):
             with self.subTest(function=function.__name__, args=args):
@@ -303,7 +321,7 @@ class Header(unittest.TestCase):
         called = (ROOT / "tests" / "interface.c").read_text(encoding="utf-8")
         for name in exports:
             endings = set(re.findall(rf"rummyteak_{name}\((?:[^()]|\([^()]*\))*\) == (\d+)", called))
-            self.assertTrue("0" in endings and len(endings) > 1, f"tests/interface.c calls {name} on good and bad input")
+            self.assertTrue("0" in endings and (len(endings) > 1 or name in REFUSE_NOTHING), f"tests/interface.c calls {name} on good and bad input")
 
     def test_advice(self):
         self.assertEqual(sorted(ADVICE), sorted(set(rt.WORDS) - {0}), "each ending says what to try")

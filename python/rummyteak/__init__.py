@@ -28,7 +28,7 @@ __all__ = [
     "refine_and_push", "march", "extract_circles", "front_and_back", "index_of_tmax", "average_spacing", "end_clip_line",
     "reverse_points", "reverse_order_only", "reverse_order", "circles_from", "camber_curve", "make_camber_curve",
     "orient_tmax_fwd", "orient_airflow", "orient_fwd", "orient_curvature", "orient_upper", "orient_lower", "is_open_at_end", "fit_open_edge",
-    "shuffle", "unshuffle",
+    "shuffle", "unshuffle", "transpose_words",
 ]
 
 
@@ -639,3 +639,13 @@ def shuffle(data: Any) -> bytes:
 def unshuffle(data: Any) -> bytes:
     """The inverse of shuffle: byte i of number k of n comes from place i × n + k."""
     return _rearranged("unshuffle", data)
+
+
+def transpose_words(words: Iterable[int]) -> Tuple[int, ...]:
+    """Eight 64-bit words turned: byte i of word k, counted from the least significant, becomes byte k of word i."""
+    given = [whole("words", word, 2**64 - 1) for word in words]
+    if len(given) != 8:
+        raise ValueError(f"words: eight are turned, not {len(given)}")
+    turned = (ctypes.c_uint64 * 8)(*given)
+    _ask("transpose_words", turned)
+    return tuple(turned)

@@ -100,6 +100,7 @@ _arguments = {
     "fit_open_edge": [*_slice, d, d, *_slice, n, b, u, P, N, U],
     "shuffle": [*_bytes, *_bytes],
     "unshuffle": [*_bytes, *_bytes],
+    "transpose_words": [ctypes.POINTER(ctypes.c_uint64)],
 }
 
 

@@ -14,8 +14,8 @@ use Rattle.errors.specs.declared.Refusal.the-variants.{ByteCount, NoRoom}
 use Rattle.curve2.specs.declared.Entry.{Entry}
 use Rattle.curve2.proofs.Laws.{none-bad, or-left}
 use Rattle.shuffle.specs.Shuffle.{place, badBytes, transposed, shuffled, unshuffled, bytesEntry, outputAfter, Rearranged}
-use Rattle.shuffle.specs.Code.{standing, Within, Apart, Moved}
-use Rattle.shuffle.proofs.Places.{place-below, place-back, place-apart}
+use Rattle.shuffle.specs.Code.{standing, Bounded, Distinct, Moved}
+use Rattle.shuffle.proofs.Places.{place-below, place-back, place-distinct}
 use Rattle.shuffle.proofs.MovedLaws.{moved-all}
 use Rattle.shuffle.proofs.Laws.{shuffled-length, unshuffled-length}
 
@@ -35,25 +35,25 @@ module _ (count room : ℕ) (passed : bytesEntry count room ≡ result tt) where
 
 -- ---- where bytes stand
 
-pub within-more : (f : ℕ → ℕ) (n room : ℕ) → 8 * n ≤ room → Within f (8 * n) (8 * n) → Within f (8 * n) room
-within-more f n room h w p l = omega (arith, w p l)
+pub bounded-more : (f : ℕ → ℕ) (n room : ℕ) → 8 * n ≤ room → Bounded f (8 * n) (8 * n) → Bounded f (8 * n) room
+bounded-more f n room h w p l = omega (arith, w p l)
 
 -- the bytes of a number together
-pub together-within : (n : ℕ) → Within (standing 8 1) (8 * n) (8 * n)
-together-within n p h = omega arith
+pub together-bounded : (n : ℕ) → Bounded (standing 8 1) (8 * n) (8 * n)
+together-bounded n p h = omega arith
 
-pub together-apart : (n : ℕ) → Apart (standing 8 1) (8 * n)
-together-apart n p q h l e = omega arith
+pub together-distinct : (n : ℕ) → Distinct (standing 8 1) (8 * n)
+together-distinct n p q h l e = omega arith
 
 -- like bytes together
 sorted-place : (n p : ℕ) → standing 1 n p ≡ place 8 n p
 sorted-place n p = omega arith
 
-pub sorted-within : (n : ℕ) → Within (standing 1 n) (8 * n) (8 * n)
-sorted-within n p h = rw (sorted-place n p) (place-below 8 n p (omega arith))
+pub sorted-bounded : (n : ℕ) → Bounded (standing 1 n) (8 * n) (8 * n)
+sorted-bounded n p h = rw (sorted-place n p) (place-below 8 n p (omega arith))
 
-pub sorted-apart : (n : ℕ) → Apart (standing 1 n) (8 * n)
-sorted-apart n p q h l e = place-apart 8 n p q (omega arith) (omega arith) (sym (sorted-place n p) ∙ e ∙ sorted-place n q)
+pub sorted-distinct : (n : ℕ) → Distinct (standing 1 n) (8 * n)
+sorted-distinct n p q h l e = place-distinct 8 n p q (omega arith) (omega arith) (sym (sorted-place n p) ∙ e ∙ sorted-place n q)
 
 -- ---- what is returned and left
 
@@ -89,7 +89,7 @@ module _ (bs old new : List ℕ) (passed : bytesEntry (length bs) (length old) �
       m
       (omega (arith, room))
       kept
-      (sorted-within n)
+      (sorted-bounded n)
       (place n 8)
       (place n 8)
       (λ q h. omega (arith, place-below n 8 q h))

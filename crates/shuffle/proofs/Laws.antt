@@ -6,7 +6,7 @@ use native.Mathlib.Omega.{arith}
 use lib.ListN.{length, getD}
 use lib.Seq.{ext-getD}
 use Rattle.shuffle.specs.Shuffle.{place, transposed, shuffled, unshuffled}
-use Rattle.shuffle.proofs.Places.{below, place-column, place-row, place-below, place-back}
+use Rattle.shuffle.proofs.Places.{place-bound, place-column, place-row, place-below, place-back}
 use Rattle.shuffle.proofs.MovedLaws.{tabulated-length, tabulated-at}
 
 -- ---- rows and columns
@@ -22,7 +22,7 @@ module _ (n m : ℕ) (bs : List ℕ) where
 
   -- byte i of row k goes to place i × n + k
   pub transposed-byte : (i k : ℕ) → i < m → k < n → getD (transposed n m bs) (i * n + k) 0 ≡ getD bs (k * m + i) 0
-  transposed-byte i k h l = transposed-at (i * n + k) (below m n i k h l) ∙ rw (place-column n i k l, place-row n i k l)
+  transposed-byte i k h l = transposed-at (i * n + k) (place-bound m n i k h l) ∙ rw (place-column n i k l, place-row n i k l)
 
   pub transposed-same : length bs ≡ m * n → ((p : ℕ) → p < m * n → place n m p ≡ p) → transposed n m bs ≡ bs
   transposed-same whole same =

@@ -8,7 +8,7 @@ use native.Mathlib.Omega.{arith}
 use lib.ListN.{length, drop, getD, set, length-append, length-drop, List·getD-append}
 use lib.Seq.{getD-set-same, getD-set-other, getD-append-add, getD-drop, ext-getD}
 use Rattle.shuffle.specs.Shuffle.{tabulated}
-use Rattle.shuffle.specs.Code.{standing, stepping, Apart, Within, Moved}
+use Rattle.shuffle.specs.Code.{standing, stepping, shifted, Distinct, Bounded, Moved}
 
 -- ---- a table
 
@@ -26,7 +26,7 @@ tabulated-at (suc n) f (suc p) h = tabulated-at n (λ q. f (suc q)) p (omega ari
 -- ---- bytes moved
 
 -- below i, or not
-order : (p i : ℕ) → (i ≤ p) ⊎ (p < i)
+pub order : (p i : ℕ) → (i ≤ p) ⊎ (p < i)
 order p i = ⊎-elim (λ e. inl (omega arith)) (λ e. inr (omega arith)) (eq-zero-or-pos (i - p))
 
 module _ (source target : ℕ → ℕ) (bs old : List ℕ) where
@@ -52,7 +52,7 @@ module _ (source target : ℕ → ℕ) (bs old : List ℕ) where
   -- some more, by a step that counts its own bytes from 0
   module _ (a b : ℕ) (mid new : List ℕ) (source₂ target₂ : ℕ → ℕ)
       (same-source : (j : ℕ) → j < b → source (a + j) ≡ source₂ j) (same-target : (j : ℕ) → j < b → target (a + j) ≡ target₂ j)
-      (apart : Apart target (a + b)) (m : Moved source target a bs old mid) (n : Moved source₂ target₂ b bs mid new) where
+      (apart : Distinct target (a + b)) (m : Moved source target a bs old mid) (n : Moved source₂ target₂ b bs mid new) where
     more-byte : (p : ℕ) → p < a + b → getD new (target p) 0 ≡ getD bs (source p) 0
     more-byte p h =
         ⊎-elim
@@ -72,7 +72,7 @@ module _ (source target : ℕ → ℕ) (bs old : List ℕ) where
 
   -- all: `back` says which byte stands at a place, and f which byte of bs that is
   module _ (count : ℕ) (new : List ℕ) (m : Moved source target count bs old new) (room : count ≤ length old) (kept : length new ≡ length old)
-      (within : Within target count count) (back f : ℕ → ℕ) (inside : Within back count count) (there : (q : ℕ) → q < count → target (back q) ≡ q)
+      (within : Bounded target count count) (back f : ℕ → ℕ) (inside : Bounded back count count) (there : (q : ℕ) → q < count → target (back q) ≡ q)
       (from : (q : ℕ) → q < count → source (back q) ≡ f q) where
     abbrev table : List ℕ
     table = tabulated count (λ q. getD bs (f q) 0)
@@ -85,11 +85,11 @@ module _ (source target : ℕ → ℕ) (bs old : List ℕ) where
         (rw (there q l, from q l) at (m .bytes (back q) (inside q l)))
         ∙ sym (List·getD-append table (drop count old) 0 q (rw table-length l) ∙ tabulated-at count (λ p. getD bs (f p) 0) q l)
 
-    behind : (j q : ℕ) → q ≡ length table + j → getD (table ++ drop count old) q 0 ≡ getD old q 0
-    behind j q e = rw (e, getD-append-add table (drop count old) j 0, getD-drop count old j 0, table-length)
+    after-table : (j q : ℕ) → q ≡ length table + j → getD (table ++ drop count old) q 0 ≡ getD old q 0
+    after-table j q e = rw (e, getD-append-add table (drop count old) j 0, getD-drop count old j 0, table-length)
 
     rest : (q : ℕ) → count ≤ q → getD new q 0 ≡ getD (table ++ drop count old) q 0
-    rest q g = m .others q (λ p h e. let l = within p h in omega arith) ∙ sym (behind (q - count) q (omega (arith, table-length)))
+    rest q g = m .others q (λ p h e. let l = within p h in omega arith) ∙ sym (after-table (q - count) q (omega (arith, table-length)))
 
     pub moved-all : new ≡ tabulated count (λ q. getD bs (f q) 0) ++ drop count old
     moved-all =
@@ -99,6 +99,18 @@ module _ (source target : ℕ → ℕ) (bs old : List ℕ) where
         (table ++ drop count old)
         (kept ∙ simp (length-append, length-drop, table-length) (omega arith))
         (λ q h. ⊎-elim (rest q) (front q) (order q count))
+
+-- the same bytes counted in another order, from other places of another list
+module _ (source target source₂ target₂ : ℕ → ℕ) (count : ℕ) (bs bs₂ old new : List ℕ) (order₂ : ℕ → ℕ)
+    (inside : Bounded order₂ count count) (twice : (p : ℕ) → p < count → order₂ (order₂ p) ≡ p)
+    (same-target : (p : ℕ) → p < count → target (order₂ p) ≡ target₂ p)
+    (same-byte : (p : ℕ) → p < count → getD bs (source (order₂ p)) 0 ≡ getD bs₂ (source₂ p) 0) where
+  pub moved-from : Moved source target count bs old new → Moved source₂ target₂ count bs₂ old new
+  moved-from m =
+      record {
+        bytes = λ p h. (rw (same-target p h) at (m .bytes (order₂ p) (inside p h))) ∙ same-byte p h;
+        others = λ q h. m .others q (λ p l e. h (order₂ p) (inside p l) (e ∙ (rw (twice p l) at (same-target (order₂ p) (inside p l)))));
+      }
 
 -- ---- a number's eight bytes
 
@@ -110,19 +122,36 @@ module _ (next step k : ℕ) where
       rw (a, b)
 
   module _ (n : ℕ) (fits : k < n) where
-    pub number-within : (room : ℕ) → Within (standing next step) (8 * n) room → Within (stepping (k * next) step) 8 room
-    number-within room w i h = rw (standing-number i h) at (w (8 * k + i) (omega arith))
+    pub number-bounded : (room : ℕ) → Bounded (standing next step) (8 * n) room → Bounded (stepping (k * next) step) 8 room
+    number-bounded room w i h = rw (standing-number i h) at (w (8 * k + i) (omega arith))
 
-    pub number-apart : Apart (standing next step) (8 * n) → Apart (stepping (k * next) step) 8
-    number-apart a p q h l e =
+    pub number-distinct : Distinct (standing next step) (8 * n) → Distinct (stepping (k * next) step) 8
+    number-distinct a p q h l e =
         let z : 8 * k + p ≡ 8 * k + q = a (8 * k + p) (8 * k + q) (omega arith) (omega arith) (standing-number p h ∙ e ∙ sym (standing-number q l)) in
         omega arith
 
--- k numbers and one more
-pub moved-number : (from-next from-step to-next to-step n k : ℕ) (bs old mid new : List ℕ) → k < n → Apart (standing to-next to-step) (8 * n)
-    → Moved (standing from-next from-step) (standing to-next to-step) (8 * k) bs old mid
-    → Moved (stepping (k * from-next) from-step) (stepping (k * to-next) to-step) 8 bs mid new
-    → Moved (standing from-next from-step) (standing to-next to-step) (8 * (k + 1)) bs old new
-moved-number from-next from-step to-next to-step n k bs old mid new h a m one =
-    let e : 8 * (k + 1) ≡ 8 * k + 8 = omega arith in
-    rw e (moved-more _ _ bs old (8 * k) 8 mid new _ _ (standing-number from-next from-step k) (standing-number to-next to-step k) (λ p q l r. a p q (omega arith) (omega arith)) m one)
+-- the numbers from `first` on, up to k, and one more
+module _ (from-next from-step to-next to-step n first : ℕ) (apart : Distinct (standing to-next to-step) (8 * n)) (bs old mid new : List ℕ) where
+  shifted-distinct : (count : ℕ) → 8 * first + count ≤ 8 * n → Distinct (shifted (8 * first) (standing to-next to-step)) count
+  shifted-distinct count room p q h l e = let z = apart (8 * first + p) (8 * first + q) (omega arith) (omega arith) e in omega arith
+
+  pub moved-number : (k : ℕ) → first ≤ k → k < n
+      → Moved (shifted (8 * first) (standing from-next from-step)) (shifted (8 * first) (standing to-next to-step)) (8 * (k - first)) bs old mid
+      → Moved (stepping (k * from-next) from-step) (stepping (k * to-next) to-step) 8 bs mid new
+      → Moved (shifted (8 * first) (standing from-next from-step)) (shifted (8 * first) (standing to-next to-step)) (8 * (k + 1 - first)) bs old new
+  moved-number k a h m one =
+      let e : 8 * (k + 1 - first) ≡ 8 * (k - first) + 8 = omega arith in
+      rw e (moved-more _ _ bs old (8 * (k - first)) 8 mid new _ _ (at-number from-next from-step) (at-number to-next to-step) (shifted-distinct (8 * (k - first) + 8) (omega arith)) m one)
+    where
+      at-number : (next step j : ℕ) → j < 8 → shifted (8 * first) (standing next step) (8 * (k - first) + j) ≡ stepping (k * next) step j
+      at-number next step j l =
+          let f : 8 * first + (8 * (k - first) + j) ≡ 8 * k + j = omega arith in
+          rw f (standing-number next step k j l)
+
+  -- the first ones, then the rest
+  pub moved-rest : first ≤ n → Moved (standing from-next from-step) (standing to-next to-step) (8 * first) bs old mid
+      → Moved (shifted (8 * first) (standing from-next from-step)) (shifted (8 * first) (standing to-next to-step)) (8 * (n - first)) bs mid new
+      → Moved (standing from-next from-step) (standing to-next to-step) (8 * n) bs old new
+  moved-rest h m rest =
+      let e : 8 * n ≡ 8 * first + 8 * (n - first) = omega arith in
+      rw e (moved-more _ _ bs old (8 * first) (8 * (n - first)) mid new _ _ (λ j l. refl) (λ j l. refl) (λ p q k l. apart p q (omega arith) (omega arith)) m rest)

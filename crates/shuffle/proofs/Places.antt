@@ -6,8 +6,8 @@ use native.Mathlib.Omega.{arith}
 use Rattle.shuffle.specs.Shuffle.{place}
 
 -- place i × n + k is below all m × n
-pub below : (m n i k : ℕ) → i < m → k < n → i * n + k < m * n
-below m n i k h l = omega (arith, mul-le-mul-right {m = suc i} {n = m} n h)
+pub place-bound : (m n i k : ℕ) → i < m → k < n → i * n + k < m * n
+place-bound m n i k h l = omega (arith, mul-le-mul-right {m = suc i} {n = m} n h)
 
 -- place i × n + k is place k of row i
 module _ (n i k : ℕ) (h : k < n) where
@@ -29,10 +29,10 @@ module _ (m n p : ℕ) (h : p < n * m) where
   row = div-lt-iff-lt-mul (some m n p h) .1 h
 
   pub place-below : place m n p < m * n
-  place-below = below m n (p % m) (p / m) column row
+  place-below = place-bound m n (p % m) (p / m) column row
 
   pub place-back : place n m (place m n p) ≡ p
   place-back = rw (place-column n (p % m) (p / m) row, place-row n (p % m) (p / m) row) (omega (arith, mod-add-div' p m))
 
-pub place-apart : (m n p q : ℕ) → p < n * m → q < n * m → place m n p ≡ place m n q → p ≡ q
-place-apart m n p q h l e = sym (place-back m n p h) ∙ ap (place n m) e ∙ place-back m n q l
+pub place-distinct : (m n p q : ℕ) → p < n * m → q < n * m → place m n p ≡ place m n q → p ≡ q
+place-distinct m n p q h l e = sym (place-back m n p h) ∙ ap (place n m) e ∙ place-back m n q l

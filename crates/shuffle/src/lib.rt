@@ -1,9 +1,11 @@
 // Stored numbers sorted by byte place, and back: like bytes lie together, which archives store better.
 mod moving;
+pub mod words;
 
 use curve2::Entry;
 use errors::Refusal;
-use moving::move_numbers;
+use moving::shuffle_numbers;
+use moving::unshuffle_numbers;
 ghost use mathlib.Core.Path.{_≡_};
 ghost use Rattle.curve2.specs.Entry.{listedEntry};
 ghost use Rattle.shuffle.specs.Shuffle.{shuffled, unshuffled, bytesEntry, Rearranged};
@@ -36,7 +38,7 @@ pub fn shuffle(input: &[u8], out: &mut [u8]) -> Entry
     match entered(count, room) {
         Entry::Passed => {
             let n = count / 8;
-            move_numbers(input, 8, 1, out, 1, n, n);
+            shuffle_numbers(input, out, n);
             Entry::Passed
         }
         Entry::Refused(r) => Entry::Refused(r),
@@ -52,7 +54,7 @@ pub fn unshuffle(input: &[u8], out: &mut [u8]) -> Entry
     match entered(count, room) {
         Entry::Passed => {
             let n = count / 8;
-            move_numbers(input, 1, n, out, 8, 1, n);
+            unshuffle_numbers(input, out, n);
             Entry::Passed
         }
         Entry::Refused(r) => Entry::Refused(r),

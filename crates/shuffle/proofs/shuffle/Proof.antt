@@ -1,11 +1,10 @@
 -- `shuffle` makes the entry tests, and moves the numbers. Assumes nothing.
-use Prim.Native.Nat.{_/_}
 use mathlib.Core.Path.{sym}
 use native.Mathlib.Omega.{arith}
 use borrow.Author.Needs.{needs}
 use lib.ListN.{length}
 use Rattle.shuffle.specs.Shuffle.{shuffled}
-use Rattle.shuffle.proofs.EntryLaws.{has-room, within-more, together-within, sorted-within, sorted-apart, rearranged-passed, rearranged-refused, shuffled-moved}
+use Rattle.shuffle.proofs.EntryLaws.{has-room, rearranged-passed, rearranged-refused, shuffled-moved}
 use Rattle.shuffle.proofs.shuffle.Statement.{statement}
 use Rattle.shuffle.proofs.shuffle.Tie as tie
 
@@ -15,13 +14,12 @@ entered-requires c κs = search needs
 enum-told : tie.Need-enum-told
 enum-told c = search needs
 
-move-numbers-requires : tie.Need-move-numbers-requires
-move-numbers-requires c κs =
+shuffle-numbers-requires : tie.Need-shuffle-numbers-requires
+shuffle-numbers-requires c κs =
     let start = c .before .before .before .before .before .before in
-    let n = length (start .args .input .now) / 8 in
     let passed = rw (c .before .enum-told .given .1) at (c .before .before .before .entered .ensures) in
     let room = has-room (length (start .args .input .now)) (length (start .args .out .now)) (sym passed) in
-    (within-more _ n _ (omega arith) (together-within n), (within-more _ n _ (omega (arith, room)) (sorted-within n), sorted-apart n))
+    (omega arith, omega (arith, room))
 
 enum-known-r : tie.Need-enum-known-r
 enum-known-r c = search needs
@@ -32,8 +30,8 @@ same-length c = search needs
 returns : tie.Need-returns
 returns c =
     let passed = rw (c .before .before .before .before .enum-told .given .1) at (c .before .before .before .before .before .before .entered .ensures) in
-    let moved = c .before .before .move-numbers in
-    rearranged-passed shuffled _ _ _ passed (shuffled-moved _ _ _ (sym passed) (moved .kept .1 .1 .1 .0) (moved .ensures))
+    let moved = c .before .before .shuffle-numbers in
+    rearranged-passed shuffled _ _ _ passed (shuffled-moved _ _ _ (sym passed) (moved .kept .1 .0) (moved .ensures))
 
 returns-2 : tie.Need-returns-2
 returns-2 c = rearranged-refused shuffled _ _ _ (rw (c .before .r .given .1) at (c .before .before .before .entered .ensures))
@@ -44,7 +42,7 @@ shuffle-spec =
     (tie.spec
     entered-requires
     enum-told
-    move-numbers-requires
+    shuffle-numbers-requires
     enum-known-r
     same-length
     returns
