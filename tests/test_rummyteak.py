@@ -313,7 +313,7 @@ class Header(unittest.TestCase):
 
     def test_functions(self):
         exports = set()
-        for file in (ROOT / "crates" / "rummyteak" / "src").glob("*.rt"):
+        for file in (ROOT / "crates" / "rummyteak_c" / "src").glob("*.rt"):
             exports.update(re.findall(r'extern "C" fn rummyteak_(\w+)', file.read_text(encoding="utf-8")))
         self.assertEqual(set(re.findall(r"uint32_t rummyteak_(\w+)\(", self.header)), exports)
         self.assertEqual(set(rt._library._arguments), exports)
@@ -510,35 +510,36 @@ class Build(unittest.TestCase):
     """include/build over a stand-in for rt: it says how far it is, builds once, and tells what isn't proved."""
 
     RT = """#!/bin/sh
-echo called >>"$CALLS"
-for name in $STAND_IN; do echo "rt: $name proved (1 s)"; done
-[ -z "$FAILS" ] || { echo "rt: two NOT PROVED (exit 1, 1 s)"; exit 1; }
-mkdir -p target/staticlib && cp "$ARCHIVE" target/staticlib/librummyteak.a
+name=$(basename "$PWD")
+echo "$name: $*" >>"$CALLS"
+[ "$name" != "$FAILS" ] || exit 1
+mkdir -p out && cp "$ARCHIVE" "out/lib$name.a"
 """
 
     def build(self, folder, **more):
-        env = dict(os.environ, PATH=f"{folder}:{os.environ['PATH']}", CALLS=f"{folder}/calls", STAND_IN="one two", ARCHIVE=str(ROOT / "target" / "lib" / "librummyteak.a"), FAILS="")
+        env = dict(os.environ, PATH=f"{folder}:{os.environ['PATH']}", CALLS=f"{folder}/calls", ARCHIVE=str(ROOT / "target" / "lib" / "librummyteak.a"), FAILS="")
         env.update(more)
         return subprocess.run([str(folder / "include" / "build")], env=env, capture_output=True, text=True)
 
     def test_build(self):
         with tempfile.TemporaryDirectory(dir=ROOT / "target") as name:
             folder = Path(name)
-            for part in ("include", "crates"):
-                (folder / part).mkdir()
+            for part in ("include", "crates/one", "crates/two", "crates/rummyteak_c", "crates/other"):
+                (folder / part).mkdir(parents=True)
             shutil.copy(ROOT / "include" / "build", folder / "include")
-            (folder / "crates.txt").write_text("one:\ntwo: one\n# a note\nrummyteak: two\nother: one\n")
+            (folder / "crates.txt").write_text("one:\ntwo: one\n# a note\nrummyteak_c staticlib: two\nother: one\n")
             (folder / "rt").write_text(self.RT)
             (folder / "rt").chmod(0o755)
-            failed = self.build(folder, FAILS="1")
+            failed = self.build(folder, FAILS="two")
             self.assertEqual(failed.returncode, 1)
             self.assertIn("two NOT PROVED", failed.stderr)
             built = self.build(folder)
             self.assertEqual((built.returncode, built.stdout), (0, ""))
-            for words in ("1 of 3 crates proved: one", "2 of 3 crates proved: two", "3 of 3 crates proved"):
+            for words in ("1 of 3 crates proved: one", "2 of 3 crates proved: two", "3 of 3 crates proved: rummyteak_c"):
                 self.assertIn(words, built.stderr)
             self.assertTrue((folder / "target" / "lib" / "librummyteak.so").is_file())
             calls = (folder / "calls").read_text()
+            self.assertEqual(calls, "one: lib\ntwo: lib\n" + "one: lib\ntwo: lib\nrummyteak_c: lib\n")
             again = self.build(folder)
             self.assertEqual((again.returncode, again.stderr, (folder / "calls").read_text()), (0, "", calls), "what is built isn't built again")
             (folder / "crates" / "new").write_text("")

@@ -1,4 +1,6 @@
 // One advance from the last circle: the end of the march, or the next circle to offer.
+#![tactic(auto)]
+
 pub mod checked;
 mod remaining;
 mod steps;
@@ -7,7 +9,7 @@ use inscribed::Inscribed;
 use refine::RunEnd;
 
 // An ending of the march, or the next circle, with the units taken so far.
-#[derive(Drop)]
+#[derive(Clone, Copy)]
 pub enum Advanced {
     Ended(RunEnd, u32),
     Next(Inscribed, u32),

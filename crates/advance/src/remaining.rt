@@ -12,7 +12,7 @@ use line2::surface2::{SurfacePoint2, SurfacePointAnswer};
 use points::Point2;
 
 // What lies ahead of a circle: the end, the camber ray to advance along, or a refusal.
-#[derive(Drop)]
+#[derive(Clone, Copy)]
 pub enum AheadAnswer {
     Done,
     Ray(SurfacePoint2),

@@ -3,7 +3,7 @@ use mathlib.Core.Path.{◌≡◌, refl, ap, ◌∙◌}
 use mathlib.Core.Bool.{Bool, true, false, cond}
 use mathlib.Core.List.{List, [], ◌∷◌}
 use mathlib.Core.Option.{Option, some, none}
-use Prim.Native.Nat.{ℕ, zero, suc, ◌+◌, ◌-◌, ◌≤◌}
+use Prim.Native.Nat.{ℕ, zero, suc, ◌+◌, ◌≤◌}
 use native.Mathlib.Omega.{arith}
 use borrow.Author.Tests.{lt-ltb, le-ltb}
 use lib.Dec.{ltb}
@@ -127,9 +127,9 @@ module _ (ns : List Float) (tol : Float) (slots limit : ℕ) (old : List Float) 
     pub refined_on : refined.ending ≡ ended finished → march_run ns tol slots full start u ≡ march_run ns tol slots full (advancing (circles_in refined.state) 0) refined.units
     refined_on e =
         march_sequel.goes_on e
-        ∙ ap (λ (s : State). march_run ns tol slots full s refined.units) (refined_done ns tol slots limit old cs b u fits within e).none-waits
+        ∙ ap (λ (s : State). march_run ns tol slots full s refined.units) (refined_done ns tol slots limit old cs b u fits within e).none_waits
         ∙ whole_goes (march_step ns tol slots) (measure slots) (march_falls ns tol slots) full (refining (circles_in refined.state) []) refined.units (advancing (circles_in refined.state) 0) (unfold march_step in refl)
 
     -- or it ends as the refinement does
     pub refined_ends : (refined.ending ≡ ended finished → ⊥) → march_run ns tol slots full start u ≡ refined
-    refined_ends n = march_sequel.as-it-is n (finishes (refine_step ns tol slots) (measure slots) (refine_falls ns tol slots) full start u)
+    refined_ends n = march_sequel.as_it_is n (finishes (refine_step ns tol slots) (measure slots) (refine_falls ns tol slots) full start u)

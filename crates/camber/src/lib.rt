@@ -1,4 +1,6 @@
 // The march along the camber line, and the extraction by two of them.
+#![tactic(auto)]
+
 pub mod extraction;
 mod halves;
 pub mod march;

@@ -18,21 +18,21 @@ use queries::{Crossing, CrossingAsked, HitEdges};
 use refine::{Run, RunAnswer, RunEnd};
 
 // The edges of the start's crossing, where that was found.
-#[derive(Drop)]
+#[derive(Clone, Copy)]
 pub enum StartEdges {
     Found(HitEdges),
     Nothing,
 }
 
 // A march that began: how it ended, and the edges that its start hit.
-#[derive(Drop)]
+#[derive(Clone, Copy)]
 pub struct MarchRun {
     pub run: Run,
     pub edges: StartEdges,
 }
 
 // A march, or the number alone where it is refused on entry.
-#[derive(Drop)]
+#[derive(Clone, Copy)]
 pub enum MarchAnswer {
     Ran(MarchRun),
     Refused(Refusal),

@@ -1,4 +1,6 @@
 // What is asked of a section with a general tolerance. Each function makes the entry tests, and then its step.
+#![tactic(auto)]
+
 pub mod checked;
 
 ghost use Rattle.std.specs.Prelude.{◌≡◌, ◌||◌};
@@ -16,14 +18,14 @@ use line2::Line2;
 use queries::{CrossingAsked, HitEdges};
 
 // The circle on a line, and the edges of the line's crossing.
-#[derive(Drop)]
+#[derive(Clone, Copy)]
 pub struct CircleOnLine {
     pub circle: Inscribed,
     pub edges: HitEdges,
 }
 
 // The circle on a line, or why there is none.
-#[derive(Drop)]
+#[derive(Clone, Copy)]
 pub enum CircleOnLineAnswer {
     Value(CircleOnLine),
     Refused(Refusal),

@@ -1,6 +1,6 @@
 // Writing points into an output, and cleaning points whose count and output have been tested.
 ghost use Rattle.std.specs.Prelude.{◌≡◌, ◌+◌, ◌*◌, ◌%◌, ◌≤◌, ltb, length};
-ghost use Rattle.errors.specs.Answer.{result};
+ghost use Rattle.errors.specs.Answer.{result as answered};
 ghost use Rattle.curve2.specs.Section.{points_of};
 ghost use Rattle.cleaning.specs.Cleaning.{kept, closing, curve_of, Made};
 ghost use Rattle.cleaning.specs.Code.{put};
@@ -12,7 +12,7 @@ use points::Point2;
 // A point more in the output, behind the `count` that it holds.
 pub fn put(out: &mut [f64], count: usize, p: Point2) -> Kept
     requires { 2 * count + 2 ≤ length out.old }
-    ensures* { λ r. ⌜ (record { kept = r; output = out.new }) ≡ put count p out.old ⌝ }
+    ensures { (record { kept = result; output = out.new }) ≡ put count p out.old }
 {
     let x = p.x;
     let y = p.y;
@@ -31,7 +31,7 @@ pub fn put(out: &mut [f64], count: usize, p: Point2) -> Kept
 pub fn is_too_few(points: &[f64], tol: f64) -> bool
     requires points_len { length points.now % 2 ≡ 0 }
     requires in_bounds { 2 ≤ length points.now }
-    ensures* { λ r. ⌜ r ≡ ltb (length (kept tol (points_of points.now))) 2 ⌝ }
+    ensures { result ≡ ltb (length (kept tol (points_of points.now))) 2 }
 {
     let first = keeping::point_at(points, 0);
     let mut i: usize = 2;
@@ -50,7 +50,7 @@ pub fn keep_points(points: &[f64], tol: f64, out: &mut [f64]) -> Curve
     requires points_len { length points.now % 2 ≡ 0 }
     requires in_bounds { 2 ≤ length points.now }
     requires points_in_bounds { length points.now ≤ length out.old }
-    ensures* { λ r. ⌜ Made (result (kept tol (points_of points.now))) tol out.old out.new (CurveAnswer.Value r) ⌝ }
+    ensures { Made (answered (kept tol (points_of points.now))) tol out.old out.new (CurveAnswer.Value result) }
 {
     let k = keeping::keep_all(points, tol, out);
     let count = k.count;
@@ -68,7 +68,7 @@ fn clean(points: &[f64], tol: f64, force_closed: bool, out: &mut [f64]) -> Curve
     requires points_len { length points.now % 2 ≡ 0 }
     requires in_bounds { 2 ≤ length points.now }
     requires points_in_bounds { length points.now + 2 ≤ length out.old }
-    ensures* { λ r. ⌜ Made (result (closing tol force_closed (kept tol (points_of points.now)))) tol out.old out.new (CurveAnswer.Value r) ⌝ }
+    ensures { Made (answered (closing tol force_closed (kept tol (points_of points.now)))) tol out.old out.new (CurveAnswer.Value result) }
 {
     let k = keeping::keep_all(points, tol, out);
     let held = keeping::close(out, k, tol, force_closed);
@@ -87,7 +87,7 @@ pub fn clean_points(points: &[f64], tol: f64, force_closed: bool, out: &mut [f64
     requires points_len { length points.now % 2 ≡ 0 }
     requires in_bounds { 2 ≤ length points.now }
     requires points_in_bounds { length points.now + 2 ≤ length out.old }
-    ensures* { λ r. ⌜ Made (curve_of tol force_closed (points_of points.now)) tol out.old out.new r ⌝ }
+    ensures { Made (curve_of tol force_closed (points_of points.now)) tol out.old out.new result }
 {
     if is_too_few(points, tol) {
         return CurveAnswer::Refused(Refusal::TooFewKept);

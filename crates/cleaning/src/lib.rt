@@ -1,4 +1,6 @@
 // Cleaning a list of points into a curve.
+#![tactic(auto)]
+
 pub mod checked;
 pub mod reversed;
 
@@ -15,21 +17,21 @@ mod keeping;
 pub const MOST_CLEANED: usize = MOST_POINTS - 1;
 
 // A curve in an output: how many points it has, and whether its ends meet.
-#[derive(Drop)]
+#[derive(Clone, Copy)]
 pub struct Curve {
     pub count: usize,
     pub is_closed: bool,
 }
 
 // A curve, or why there is none.
-#[derive(Drop)]
+#[derive(Clone, Copy)]
 pub enum CurveAnswer {
     Value(Curve),
     Refused(Refusal),
 }
 
 // What an output holds so far: how many points from its start on, and the last of them.
-#[derive(Drop)]
+#[derive(Clone, Copy)]
 pub struct Kept {
     pub count: usize,
     pub last: Point2,

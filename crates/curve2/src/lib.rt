@@ -1,4 +1,6 @@
 // Sections: the types of their points, and what the entry tests take and answer. A section that passed the tests is what the functions of `checked` take.
+#![tactic(auto)]
+
 pub mod checked;
 pub mod entering;
 
@@ -14,7 +16,7 @@ use points::{AngleDir, Point2, Vector2};
 pub const MOST_POINTS: usize = 4096;
 
 // What fails of the arguments beside the section: a number (2), a tolerance (3), a general tolerance finer than the section's (23; false in a call that isn't held to it), a count or an output (4).
-#[derive(Drop)]
+#[derive(Clone, Copy)]
 pub struct AlsoBad {
     pub number: bool,
     pub tolerance: bool,
@@ -23,14 +25,14 @@ pub struct AlsoBad {
 }
 
 // Whether the arguments passed the entry tests.
-#[derive(Drop)]
+#[derive(Clone, Copy)]
 pub enum Entry {
     Passed,
     Refused(Refusal),
 }
 
 // A place on a section: its point, the direction there, its edge and its fraction of that edge.
-#[derive(Drop)]
+#[derive(Clone, Copy)]
 pub struct CurveStation2 {
     pub point: Point2,
     pub direction: Vector2,
@@ -39,7 +41,7 @@ pub struct CurveStation2 {
 }
 
 // A station, or why there is none.
-#[derive(Drop)]
+#[derive(Clone, Copy)]
 pub enum StationAnswer {
     Value(CurveStation2),
     Refused(Refusal),

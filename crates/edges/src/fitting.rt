@@ -15,14 +15,14 @@ use lists::ends::Pair;
 use points::{Point2, PointAnswer};
 
 // Where the rounds of a fit start: the gap, and the first point on it.
-#[derive(Drop)]
+#[derive(Clone, Copy)]
 pub struct Start {
     pub gap: Gap,
     pub point: Point2,
 }
 
 // That, or why there is none.
-#[derive(Drop)]
+#[derive(Clone, Copy)]
 pub enum StartAnswer {
     Value(Start),
     Refused(Refusal),

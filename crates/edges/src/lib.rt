@@ -1,4 +1,6 @@
 // The open edge: whether the section is open at an end, and the point where the camber line meets the gap.
+#![tactic(auto)]
+
 mod fitting;
 mod open_end;
 
@@ -15,7 +17,7 @@ use gap::{EdgeEnd, EdgeFit};
 use sections::BoolAnswer;
 
 // What a call of a fit returns: refused on entry, the number alone; else what the fit returns.
-#[derive(Drop)]
+#[derive(Clone, Copy)]
 pub enum FitAnswer {
     Ran(EdgeFit),
     Refused(Refusal),

@@ -1,6 +1,6 @@
 // Whether both ends of a section that was tested lie beyond the end of its circles that is meant.
 ghost use Rattle.std.specs.Prelude.{◌≡◌, ◌*◌, ◌≤◌, length};
-ghost use Rattle.errors.specs.Answer.{result};
+ghost use Rattle.errors.specs.Answer.{result as answered};
 ghost use Rattle.curve2.specs.Entry.{HasPoints};
 ghost use Rattle.inscribed.specs.Store.{width, circles_of};
 ghost use Rattle.sections.specs.Asked.{listed_bool};
@@ -16,7 +16,7 @@ use sections::BoolAnswer;
 // The two circles at the end that is meant, the outermost last.
 fn end_pair(store: &[f64], count: usize, at_front: bool) -> Pair
     requires { (2 ≤ count) × (count * width ≤ length store.now) }
-    ensures* { λ r. ⌜ last_pair (end_last at_front (circles_of store.now count)) ≡ result r ⌝ }
+    ensures { last_pair (end_last at_front (circles_of store.now count)) ≡ answered result }
 {
     if at_front {
         let before = inscribed::checked::circle_at(store, 1);
@@ -29,7 +29,7 @@ fn end_pair(store: &[f64], count: usize, at_front: bool) -> Pair
 // Whether both ends of the section lie beyond a line.
 fn is_beyond(section: &[f64], clip: Line2) -> BoolAnswer
     requires { HasPoints section.now }
-    ensures* { λ r. ⌜ listed_bool r ≡ beyond_line section.now clip ⌝ }
+    ensures { listed_bool result ≡ beyond_line section.now clip }
 {
     let end = section.len() / 2 - 1;
     let p = curve2::checked::vertex_at(section, 0);
@@ -57,7 +57,7 @@ pub(crate) fn is_beyond_end(
 ) -> BoolAnswer
     requires has_points { HasPoints section.now }
     requires width_in_bounds { count * width ≤ length store.now }
-    ensures* { λ r. ⌜ listed_bool r ≡ ends_beyond section.now (end_last at_front (circles_of store.now count)) ⌝ }
+    ensures { listed_bool result ≡ ends_beyond section.now (end_last at_front (circles_of store.now count)) }
 {
     if count < 2 {
         return BoolAnswer::Refused(Refusal::TooFewCircles);

@@ -1,4 +1,5 @@
 // The numbered refusals, the test that every watched value goes through, and the test of a sign.
+#![tactic(auto)]
 
 ghost use Rattle.std.specs.Prelude.{◌≡◌};
 ghost use Rattle.std.specs.Float.Ieee.Scale.{finite};
@@ -6,7 +7,7 @@ ghost use Rattle.errors.specs.Numbers.{is_plus};
 ghost use Rattle.errors.specs.Answer.{watched, number_of, listed_scalar};
 
 // Why no result is returned. The comment at each case is its number and meaning; `number_of` in specs/ lists the numbers. 14, spent, is an ending of runs alone and no refusal.
-#[derive(Drop)]
+#[derive(Clone, Copy)]
 pub enum Refusal {
     // 1: an odd count of numbers, fewer than 2 points, or too many.
     PointCount,
@@ -57,7 +58,7 @@ pub enum Refusal {
 }
 
 // A number, or why there is none.
-#[derive(Drop)]
+#[derive(Clone, Copy)]
 pub enum ScalarAnswer {
     Value(f64),
     Refused(Refusal),

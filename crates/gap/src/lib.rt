@@ -1,4 +1,6 @@
 // The gap of an open section, and where the camber line, drawn on, meets it.
+#![tactic(auto)]
+
 pub mod checked;
 mod probe;
 mod round;
@@ -16,7 +18,7 @@ use lists::ends::Pair;
 use points::{Point2, PointAnswer};
 
 // The gap of an open section: its ends, and the chord between them.
-#[derive(Drop)]
+#[derive(Clone, Copy)]
 pub struct Gap {
     pub a: Point2,
     pub b: Point2,
@@ -24,14 +26,14 @@ pub struct Gap {
 }
 
 // The gap, or why there is none.
-#[derive(Drop)]
+#[derive(Clone, Copy)]
 pub enum GapAnswer {
     Value(Gap),
     Refused(Refusal),
 }
 
 // How a fit ends: with the edge point, spent, or refused.
-#[derive(Drop)]
+#[derive(Clone, Copy)]
 pub enum EdgeEnd {
     Fitted(Point2),
     // One more unit is wanted than the limit: 14.
@@ -40,7 +42,7 @@ pub enum EdgeEnd {
 }
 
 // What a fit returns: its ending, the count of circles in the store, and the units taken.
-#[derive(Drop)]
+#[derive(Clone, Copy)]
 pub struct EdgeFit {
     pub end: EdgeEnd,
     pub count: usize,

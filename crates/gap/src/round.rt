@@ -15,21 +15,21 @@ use points::{Point2, PointAnswer};
 use refine::{Run, RunEnd};
 
 // The edge point of a round, and how far it has moved.
-#[derive(Drop)]
+#[derive(Clone, Copy)]
 pub struct Moved {
     pub point: Point2,
     pub drift: f64,
 }
 
 // That, or why there is none.
-#[derive(Drop)]
+#[derive(Clone, Copy)]
 pub enum MovedAnswer {
     Value(Moved),
     Refused(Refusal),
 }
 
 // Where the next round starts.
-#[derive(Drop)]
+#[derive(Clone, Copy)]
 pub struct Reached {
     pub point: Point2,
     pub drift: f64,
@@ -38,7 +38,7 @@ pub struct Reached {
 }
 
 // A round ends the fit, or another may follow.
-#[derive(Drop)]
+#[derive(Clone, Copy)]
 pub enum RoundEnd {
     Over(EdgeFit),
     Next(Reached),

@@ -1,4 +1,6 @@
 // Camber curves: through the centres of the circles in a store, alone or between two end points.
+#![tactic(auto)]
+
 pub mod centers;
 pub mod checked;
 

@@ -1,16 +1,14 @@
 -- Fractions of a power of two in binary64: halving between neighbours is exact. Assumes nothing.
-use mathlib.Core.Path.{◌≡◌, refl, sym, ap, ap₂, ◌∙◌, subst}
+use mathlib.Core.Path.{◌≡◌, refl, sym, ap, ◌∙◌, subst}
 use mathlib.Core.Bool.{false}
 use Prim.Native.Nat.{ℕ, suc, ◌+◌, ◌-◌, ◌*◌, ◌^◌, ◌≤◌, ◌<◌}
-use native.Mathlib.Nat.{mul_assoc, mul-pos, lt_of_lt_of_le, le_of_mul-le-mul_right, pow-succ'}
+use native.Mathlib.Nat.{mul_assoc, mul-pos, lt_of_lt_of_le, pow-succ'}
 use native.Mathlib.Numerals.{add-one}
 use native.Mathlib.Omega.{arith}
-use borrow.Author.Tests.{le-ltb}
 use lib.Pow.{pow_pos, pow_mono, pow-add, shl_lt}
-use lib.Ieee.{Float, nan, inf, fin, binary64, up, down, round, sum, add, sub, mul, neg, of_bits}
+use lib.Ieee.{Float, binary64, round, of_bits}
 use lib.Ieee.Digits.{back}
 use lib.Ieee.Exact.{HasValue, round_exact}
-use lib.Ieee.Fits.{down_pos}
 use lib.Ieee.Scale.{round_same}
 use Rattle.points.specs.Numbers.{◌+f◌, ◌-f◌, ◌*f◌, f0, f½, f1}
 use Rattle.points.proofs.Values.{add-value, sub-value, mul-value}

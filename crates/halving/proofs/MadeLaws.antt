@@ -190,8 +190,8 @@ module _ (ns : List Float) (tol : Float) (sec : IsSection ns tol) where
       go (lt f0 four.value) (search_end fraction three.value p) (nearest_good ns one.value two.value two.is).0 (dist_near one.value p three.value three.is) four.gives
     where
       go : (b : Bool) (end : InscribedEnd) → FinitePoint end.p → Near end.d → result (cond b (record { pos = end; neg = e.neg }) (record { pos = e.pos; neg = end })) ≡ result next → GoodEnds next
-      go true end u v q = let s : next ≡ record { pos = end; neg = e.neg } = cc in rw s (record { upper = u; lower = g.lower; upper_near = v; lower_near = g.lower-near })
-      go false end u v q = let s : next ≡ record { pos = e.pos; neg = end } = cc in rw s (record { upper = g.upper; lower = u; upper_near = g.upper-near; lower_near = v })
+      go true end u v q = let s : next ≡ record { pos = end; neg = e.neg } = cc in rw s (record { upper = u; lower = g.lower; upper_near = v; lower_near = g.lower_near })
+      go false end u v q = let s : next ≡ record { pos = e.pos; neg = end } = cc in rw s (record { upper = g.upper; lower = u; upper_near = g.upper_near; lower_near = v })
 
   good_point : (p : Point2) → FinitePoint p → (finite p.x && finite p.y) ≡ true
   good_point p g = rw (is_true (finite p.x) g.0, is_true (finite p.y) g.1)
@@ -205,7 +205,7 @@ module _ (ns : List Float) (tol : Float) (sec : IsSection ns tol) where
       let one = given (at_param l ((e.pos.f +f e.neg.f) *f f½)) _ c h in
       let two = given (closest_lengths ns e.neg.p e.pos.p) _ c one.gives in
       let o = param_finite l ((e.pos.f +f e.neg.f) *f f½) one.value one.is in
-      let r = mean_near e.pos.d e.neg.d g.upper-near g.lower-near in
+      let r = mean_near e.pos.d e.neg.d g.upper_near g.lower_near in
       let along = lengths_good e.neg.p e.pos.p two.value two.is in
       let is : c ≡ inscribed one.value ((e.pos.d +f e.neg.d) *f f½) e.neg.p e.pos.p two.value.first two.value.second = cc two.gives in
       rw (is, good_point one.value o, good_point e.neg.p g.lower, good_point e.pos.p g.upper, good_length ((e.pos.d +f e.neg.d) *f f½) r, good_length two.value.first along.0, good_length two.value.second along.1)

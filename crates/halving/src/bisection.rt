@@ -13,7 +13,7 @@ use queries::NearestAnswer;
 use sections::LengthPairAnswer;
 
 // An end of the search: its fraction of the line, its distance from the section, and the section's nearest point.
-#[derive(Drop)]
+#[derive(Clone, Copy)]
 pub struct InscribedEnd {
     pub f: f64,
     pub d: f64,
@@ -21,7 +21,7 @@ pub struct InscribedEnd {
 }
 
 // The upper and the lower end, or why there are none.
-#[derive(Drop)]
+#[derive(Clone, Copy)]
 pub enum EndsAnswer {
     Value(InscribedEnd, InscribedEnd),
     Refused(Refusal),

@@ -1,4 +1,6 @@
 // The circle of a crossing, by halving, and the circle on a line.
+#![tactic(auto)]
+
 mod bisection;
 pub mod checked;
 
@@ -6,7 +8,7 @@ use errors::Refusal;
 use inscribed::Inscribed;
 
 // A circle, none, or a refusal.
-#[derive(Drop)]
+#[derive(Clone, Copy)]
 pub enum TriedAnswer {
     Value(Inscribed),
     Nothing,

@@ -1,4 +1,6 @@
 // Inscribed circles: the circle, and the store that holds its numbers.
+#![tactic(auto)]
+
 pub mod checked;
 pub mod store;
 
@@ -11,7 +13,7 @@ use line2::surface2::{SurfacePoint2, SurfacePointAnswer};
 use points::{AngleDir, Point2, Vector2};
 
 // An inscribed circle: centre, radius, the two points where it touches the section, and the lengths along of the section's nearest points to these.
-#[derive(Drop)]
+#[derive(Clone, Copy)]
 pub struct Inscribed {
     pub cx: f64,
     pub cy: f64,
@@ -25,21 +27,21 @@ pub struct Inscribed {
 }
 
 // A circle, or why there is none.
-#[derive(Drop)]
+#[derive(Clone, Copy)]
 pub enum InscribedAnswer {
     Value(Inscribed),
     Refused(Refusal),
 }
 
 // The first and the last circle of a list.
-#[derive(Drop)]
+#[derive(Clone, Copy)]
 pub struct FrontAndBack {
     pub front: Inscribed,
     pub back: Inscribed,
 }
 
 // Both ends, or why there are none.
-#[derive(Drop)]
+#[derive(Clone, Copy)]
 pub enum FrontAndBackAnswer {
     Value(FrontAndBack),
     Refused(Refusal),

@@ -109,7 +109,7 @@ pub fn is_bad_store_count(store: &[f64], count: usize) -> bool
 }
 
 // A part of a store and the answer of the entry tests: no numbers where they refuse.
-#[derive(Drop)]
+#[derive(Clone, Copy)]
 pub struct Part<'a> {
     pub numbers: &'a [f64],
     pub entry: Entry,

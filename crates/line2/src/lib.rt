@@ -1,4 +1,6 @@
 // Lines, and where a line meets the line of an edge.
+#![tactic(auto)]
+
 pub mod surface2;
 
 ghost use Rattle.std.specs.Prelude.{◌≡◌};
@@ -10,28 +12,28 @@ ghost use Rattle.line2.specs.Intersection.{listed_params, intersection_param};
 use errors::{Refusal, ScalarAnswer};
 use points::{AngleDir, Point2, PointAnswer, Vector2, VectorAnswer};
 
-#[derive(Drop)]
+#[derive(Clone, Copy)]
 pub struct Line2 {
     pub origin: Point2,
     pub direction: Vector2,
 }
 
 // A line, or why there is none.
-#[derive(Drop)]
+#[derive(Clone, Copy)]
 pub enum LineAnswer {
     Value(Line2),
     Refused(Refusal),
 }
 
 // Where two lines meet: the fraction along the first and the one along the second.
-#[derive(Drop)]
+#[derive(Clone, Copy)]
 pub struct LineParams {
     pub t: f64,
     pub s: f64,
 }
 
 // The fractions, no meeting of parallel lines, or a refusal.
-#[derive(Drop)]
+#[derive(Clone, Copy)]
 pub enum ParamsAnswer {
     Value(LineParams),
     Parallel,

@@ -8,14 +8,14 @@ use crate::Line2;
 use errors::{Refusal, ScalarAnswer};
 use points::{AngleDir, Point2, PointAnswer, Vector2, VectorAnswer};
 
-#[derive(Drop)]
+#[derive(Clone, Copy)]
 pub struct SurfacePoint2 {
     pub point: Point2,
     pub normal: Vector2,
 }
 
 // A surface point, or why there is none.
-#[derive(Drop)]
+#[derive(Clone, Copy)]
 pub enum SurfacePointAnswer {
     Value(SurfacePoint2),
     Refused(Refusal),

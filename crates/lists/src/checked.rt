@@ -1,6 +1,6 @@
 // The end of a list of circles in a store that passed the entry tests.
 ghost use Rattle.std.specs.Prelude.{◌≡◌, ◌*◌, ◌≤◌, length};
-ghost use Rattle.errors.specs.Answer.{result};
+ghost use Rattle.errors.specs.Answer.{result as answered};
 ghost use Rattle.inscribed.specs.Store.{width, circles_of};
 ghost use Rattle.lists.specs.Ends.{last_pair};
 
@@ -9,7 +9,7 @@ use crate::ends::Pair;
 // The last two circles of a store that holds `count`.
 pub fn last_pair(store: &[f64], count: usize) -> Pair
     requires { (2 ≤ count) × (count * width ≤ length store.now) }
-    ensures* { λ r. ⌜ last_pair (circles_of store.now count) ≡ result r ⌝ }
+    ensures { last_pair (circles_of store.now count) ≡ answered result }
 {
     let j = count - 2;
     let k = count - 1;

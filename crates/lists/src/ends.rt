@@ -11,7 +11,7 @@ use line2::{Line2, LineAnswer};
 use points::{AngleDir, Point2, PointAnswer, Vector2, VectorAnswer};
 
 // The last two circles of a list.
-#[derive(Drop)]
+#[derive(Clone, Copy)]
 pub struct Pair {
     pub before: Inscribed,
     pub last: Inscribed,

@@ -1,4 +1,6 @@
 // The list helpers: what is told of the circles in use of a store, and their order and contacts turned. Each function makes the entry tests of the store first.
+#![tactic(auto)]
+
 pub mod checked;
 pub mod ends;
 pub mod records;
@@ -17,7 +19,7 @@ use inscribed::FrontAndBackAnswer;
 use line2::LineAnswer;
 
 // A place in a list, or why there is none.
-#[derive(Drop)]
+#[derive(Clone, Copy)]
 pub enum PlaceAnswer {
     Value(usize),
     Refused(Refusal),

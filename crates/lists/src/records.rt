@@ -9,7 +9,7 @@ use errors::Refusal;
 use inscribed::Inscribed;
 
 // What is known of the records before a place: the thickest one's place and radius, and whether one is bad.
-#[derive(Drop)]
+#[derive(Clone, Copy)]
 struct Thickest {
     place: usize,
     radius: f64,

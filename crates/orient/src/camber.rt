@@ -11,7 +11,7 @@ use errors::ScalarAnswer;
 use sections::BoolAnswer;
 
 // What is asked of the camber curve: where the thickest circle is, or to which side the camber bends.
-#[derive(Drop)]
+#[derive(Clone, Copy)]
 pub(crate) enum CamberCheck {
     TmaxFwd,
     Curvature,

@@ -23,7 +23,7 @@ const SAMPLES: usize = 50;
 const SAMPLE_NUMBERS: usize = 2 * SAMPLES;
 
 // Whether the samples were taken.
-#[derive(Drop)]
+#[derive(Clone, Copy)]
 enum SamplesAnswer {
     Taken,
     Refused(Refusal),

@@ -1,4 +1,6 @@
 // Orientation of the circles in a store: which end is the leading edge, and which contacts are on the upper side.
+#![tactic(auto)]
+
 mod camber;
 mod checks;
 mod curvature;
@@ -20,7 +22,7 @@ use points::Vector2;
 use sections::BoolAnswer;
 
 // How the leading edge is told: by greatest radius, by the direction of the airflow, or by a direction that points forward.
-#[derive(Drop)]
+#[derive(Clone, Copy)]
 pub enum OrientFwdAft {
     TmaxFwd,
     Airflow(Vector2),
@@ -28,7 +30,7 @@ pub enum OrientFwdAft {
 }
 
 // How the upper side is told: by the side to which the camber bends, or by a direction that points to the upper side, or to the lower.
-#[derive(Drop)]
+#[derive(Clone, Copy)]
 pub enum OrientUpperLower {
     Curvature,
     Upper(Vector2),

@@ -1,10 +1,10 @@
 -- A leg, turn by turn: what is left of it, put behind what is held, is the whole; and there is room for it. Assumes nothing.
-use mathlib.Core.Path.{◌≡◌, refl, sym, ap, ◌∙◌}
-use mathlib.Core.Logic.{◌⊎◌, inl, inr, ⊎_elim}
+use mathlib.Core.Path.{◌≡◌, refl, sym, ◌∙◌}
+use mathlib.Core.Logic.{inl, inr, ⊎_elim}
 use mathlib.Core.Bool.{Bool, true, false, ◌&&◌, cond}
-use mathlib.Core.List.{List, [], ◌∷◌}
+use mathlib.Core.List.{List, []}
 use mathlib.Core.Option.{Option, some, none}
-use Prim.Native.Nat.{ℕ, zero, suc, ◌+◌, ◌-◌, ◌*◌, ◌≤◌, ◌<◌}
+use Prim.Native.Nat.{ℕ, suc, ◌+◌, ◌-◌, ◌*◌, ◌≤◌, ◌<◌}
 use native.Mathlib.Omega.{arith}
 use borrow.Author.Tests.{eqb-true, eqb-false, lt-ltb}
 use lib.Dec.{eqb, ltb}
@@ -18,7 +18,6 @@ use Rattle.curve2.specs.Stations.{last_vertex, at_vertex}
 use Rattle.curve2.specs.declared.CurveStation2.{CurveStation2}
 use Rattle.cleaning.specs.Code.{Held, put}
 use Rattle.cleaning.specs.declared.Kept.{Kept}
-use Rattle.sections.specs.Places.{length_along}
 use Rattle.partitioning.specs.Walk.{along, reached, Leg, behind, leg_from}
 use Rattle.partitioning.specs.Code.{Stops, EndAhead, Room, LegHeld, working_at, next_of, turn_of, held, put_on, leg_put, leg_onto}
 use Rattle.partitioning.specs.declared.Ends.{Ends}

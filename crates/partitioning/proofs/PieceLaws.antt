@@ -1,8 +1,8 @@
 -- Pieces: what the entry tests tell, what is returned and what the outputs hold, and that a piece always fits. Assumes nothing.
-use mathlib.Core.Path.{◌≡◌, refl, sym, ap, ap₂, ◌∙◌}
+use mathlib.Core.Path.{◌≡◌, refl, sym, ap₂, ◌∙◌}
 use mathlib.Core.Bool.{Bool, true, false, not, ◌||◌, cond}
 use mathlib.Core.List.{List}
-use Prim.Native.Nat.{ℕ, ◌+◌, ◌*◌, ◌/◌, ◌≤◌}
+use Prim.Native.Nat.{ℕ, ◌+◌, ◌*◌, ◌≤◌}
 use native.Mathlib.Omega.{arith}
 use borrow.Author.Tests.{ltb-false}
 use lib.Dec.{ltb}
@@ -17,10 +17,9 @@ use Rattle.curve2.specs.Entry.{bad_count, section_entry, IsSection, listed_entry
 use Rattle.curve2.specs.declared.AlsoBad.{AlsoBad}
 use Rattle.curve2.specs.declared.Entry.{Entry}
 use Rattle.curve2.proofs.Laws.{or_left, or_right, count_most, entry_passed, entry_room}
-use Rattle.cleaning.specs.Cleaning.{kept, kept_after, most_cleaned, output_after, curve_answer, Made}
+use Rattle.cleaning.specs.Cleaning.{kept, most_cleaned, output_after, curve_answer, Made}
 use Rattle.cleaning.specs.declared.Curve.{Curve}
 use Rattle.cleaning.specs.declared.CurveAnswer.{CurveAnswer}
-use Rattle.cleaning.proofs.Made.{kept-count}
 use Rattle.partitioning.specs.Walk.{ends_of, is_empty, given_between, or_too_few, given_of}
 use Rattle.partitioning.specs.Code.{Laid}
 use Rattle.partitioning.specs.Pieces.{Stretch, cleaned_stretch, stretch_of, Halves, both_of, is_short, stretch_entry, piece_told, piece_answer, pieces_answer, stretch_after, first_after, second_after, Cut, CutInTwo}

@@ -1,9 +1,9 @@
 -- Rounding to 53 digits, in whole numbers of units: what a place inside an interval, worked out by its fraction, cannot pass. Nothing here is about a section. Assumes nothing.
-use mathlib.Core.Path.{◌≡◌, refl, sym, ap, ◌∙◌, subst}
+use mathlib.Core.Path.{◌≡◌, refl, sym, ap, ◌∙◌}
 use mathlib.Core.Logic.{◌⊎◌, inl, inr, ⊎_elim}
 use mathlib.Core.Bool.{Bool, true, false}
 use Prim.Native.Nat.{ℕ, zero, suc, ◌+◌, ◌-◌, ◌*◌, ◌/◌, ◌%◌, ◌^◌, ◌≤◌, ◌<◌, compare, Ordering}
-use native.Mathlib.Nat.{div-mul-le_self, lt_of_mul-lt-mul_right, le_trans, le_of_eq, lt_of_lt_of_le, lt_of_le_of_lt, mul_assoc, mul_comm, mul-le-mul_right, mul-le-mul_left, mul-pos, div-one, mod-one, div-add-mod', mod-lt, le-div_iff_mul-le, div-lt_iff_lt-mul, mul-div_cancel, one-mul, le_of_mul-le-mul_right, mul-lt-mul_of_pos_right, mul-lt-mul_of_pos_left, div-div-eq-div-mul, pow-succ'}
+use native.Mathlib.Nat.{div-mul-le_self, lt_of_mul-lt-mul_right, le_trans, le_of_eq, lt_of_lt_of_le, lt_of_le_of_lt, mul_assoc, mul-le-mul_right, mul-le-mul_left, mul-pos, div-one, mod-one, div-add-mod', le-div_iff_mul-le, div-lt_iff_lt-mul, one-mul, mul-lt-mul_of_pos_right, mul-lt-mul_of_pos_left, div-div-eq-div-mul, pow-succ'}
 use native.Mathlib.Omega.{arith}
 use borrow.Author.Tests.{ltb-true, ltb-false}
 use lib.Dec.{ltb, eqb→eq, le→leb}

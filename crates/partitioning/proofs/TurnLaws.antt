@@ -1,6 +1,6 @@
 -- One turn of the walk: whether the end is reached, and the next vertex. Assumes nothing.
 use mathlib.Core.Path.{◌≡◌, refl, sym, ap, ◌∙◌}
-use mathlib.Core.Bool.{Bool, true, false, cond}
+use mathlib.Core.Bool.{Bool, true, false}
 use mathlib.Core.List.{List}
 use mathlib.Core.Option.{some, none}
 use Prim.Native.Nat.{ℕ, ◌+◌, ◌-◌, ◌*◌, ◌<◌}
@@ -15,7 +15,7 @@ use Rattle.points.specs.declared.Vector2.{Vector2}
 use Rattle.curve2.specs.Section.{point_at, plain_dist}
 use Rattle.curve2.specs.Stations.{station, vertex, last_vertex, vertex_direction, at_vertex}
 use Rattle.curve2.specs.declared.CurveStation2.{CurveStation2}
-use Rattle.sections.specs.Places.{length_at, length_along}
+use Rattle.sections.specs.Places.{length_along}
 use Rattle.sections.proofs.LengthLaws.{length_after}
 use Rattle.partitioning.specs.Walk.{along, reached}
 use Rattle.partitioning.specs.Code.{working_at, next_of, turn_of}

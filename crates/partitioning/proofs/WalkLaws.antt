@@ -4,27 +4,26 @@ use mathlib.Core.Logic.{inl, inr}
 use mathlib.Core.Bool.{Bool, true, false, ◌&&◌, cond}
 use mathlib.Core.List.{List, [], ◌∷◌, ◌++◌, append_assoc, append-nil}
 use mathlib.Core.Option.{Option, some, none}
-use Prim.Native.Nat.{ℕ, zero, suc, ◌+◌, ◌-◌, ◌*◌, ◌/◌, ◌≤◌, ◌<◌}
+use Prim.Native.Nat.{ℕ, zero, suc, ◌+◌, ◌-◌, ◌*◌, ◌≤◌, ◌<◌}
 use native.Mathlib.Omega.{arith}
 use lib.ListN.{length, length-append}
-use lib.Ieee.{Float, lt}
+use lib.Ieee.{Float}
 use Rattle.errors.specs.Answer.{Answer, result, refusal, ◌>>=◌}
 use Rattle.errors.specs.declared.Refusal.{Refusal}
-use Rattle.points.specs.Numbers.{f0}
 use Rattle.points.specs.declared.Point2.{Point2}
-use Rattle.curve2.specs.Section.{plain_dist, is_closed}
+use Rattle.curve2.specs.Section.{is_closed}
 use Rattle.curve2.specs.Entry.{HasPoints}
 use Rattle.curve2.specs.Stations.{last_vertex, at_vertex}
 use Rattle.curve2.specs.declared.CurveStation2.{CurveStation2}
-use Rattle.cleaning.specs.Cleaning.{placed, point_numbers}
+use Rattle.cleaning.specs.Cleaning.{point_numbers}
 use Rattle.cleaning.specs.Code.{Held, put, holding}
 use Rattle.cleaning.proofs.HeldLaws.{put-holding}
 use Rattle.partitioning.specs.Walk.{wrap, last_index, Leg, behind, leg_from, from_front, walked}
 use Rattle.partitioning.specs.Code.{Walkable, EndAhead, Room, LegHeld, working_at, turn_of, put_on, leg_put, leg_onto, front_onto, walk_onto}
 use Rattle.partitioning.specs.declared.Ends.{Ends}
 use Rattle.partitioning.specs.declared.walk.Working.{Working}
-use Rattle.partitioning.proofs.TurnLaws.{AtInner, at_inner}
-use Rattle.partitioning.proofs.LegLaws.{WentOn, went_on, before-end, inner, still_ahead, onward, leg_by_turn}
+use Rattle.partitioning.proofs.TurnLaws.{at_inner}
+use Rattle.partitioning.proofs.LegLaws.{went_on, before-end, inner, still_ahead, onward, leg_by_turn}
 
 -- ---- how many points a leg has
 

@@ -1,10 +1,12 @@
 // Stretches cut out of a section: the part between two lengths along, and a section split in two.
+#![tactic(auto)]
+
 pub mod stretch;
 pub mod walk;
 
 ghost use Rattle.std.specs.Prelude.{◌≡◌, ◌&&◌, ◌||◌, ◌+◌, ◌*◌, ◌≤◌, length};
 ghost use Rattle.std.specs.Float.Ieee.Scale.{finite};
-ghost use Rattle.errors.specs.Answer.{result};
+ghost use Rattle.errors.specs.Answer.{result as answered};
 ghost use Rattle.curve2.specs.Section.{points_of};
 ghost use Rattle.curve2.specs.Entry.{IsSection, listed_entry};
 ghost use Rattle.cleaning.specs.Cleaning.{kept, most_cleaned};
@@ -19,7 +21,7 @@ use errors::Refusal;
 const MOST_GIVEN: usize = 2 * MOST_POINTS;
 
 // Where a stretch begins and ends, with the lengths along there.
-#[derive(Drop)]
+#[derive(Clone, Copy)]
 pub struct Ends {
     pub start: CurveStation2,
     pub end: CurveStation2,
@@ -27,14 +29,14 @@ pub struct Ends {
     pub to: f64,
 }
 
-#[derive(Drop)]
+#[derive(Clone, Copy)]
 pub enum EndsAnswer {
     Value(Ends),
     Refused(Refusal),
 }
 
 // A piece in an output: how many points it has, whether its ends meet, and how many points the walk gave the cleaning.
-#[derive(Drop)]
+#[derive(Clone, Copy)]
 pub struct Piece {
     pub count: usize,
     pub is_closed: bool,
@@ -42,21 +44,21 @@ pub struct Piece {
 }
 
 // A piece, or why there is none.
-#[derive(Drop)]
+#[derive(Clone, Copy)]
 pub enum PieceAnswer {
     Value(Piece),
     Refused(Refusal),
 }
 
 // Both pieces of a split.
-#[derive(Drop)]
+#[derive(Clone, Copy)]
 pub struct Pieces {
     pub first: Piece,
     pub second: Piece,
 }
 
 // Both pieces, or why there are none.
-#[derive(Drop)]
+#[derive(Clone, Copy)]
 pub enum PiecesAnswer {
     Value(Pieces),
     Refused(Refusal),
@@ -66,7 +68,7 @@ pub enum PiecesAnswer {
 
 // The entry tests of a section with at most 4,095 points, with whether the lengths are finite (2) and whether an output is too short (4).
 fn entered(section: &[f64], tol: f64, good: bool, short: bool) -> Entry
-    ensures* { λ r. ⌜ listed_entry r ≡ stretch_entry section.now tol good short ⌝ }
+    ensures { listed_entry result ≡ stretch_entry section.now tol good short }
 {
     if entering::is_bad_count(MOST_CLEANED, section.len()) {
         return Entry::Refused(Refusal::PointCount);
@@ -81,7 +83,7 @@ fn entered(section: &[f64], tol: f64, good: bool, short: bool) -> Entry
 }
 
 fn are_finite(a: f64, b: f64) -> bool
-    ensures* { λ r. ⌜ r ≡ (finite a && finite b) ⌝ }
+    ensures { result ≡ (finite a && finite b) }
 {
     if errors::is_finite(a) {
         return errors::is_finite(b);
@@ -91,13 +93,13 @@ fn are_finite(a: f64, b: f64) -> bool
 
 // Whether an output is shorter than the section plus two numbers.
 fn is_short(section: &[f64], room: usize) -> bool
-    ensures* { λ r. ⌜ r ≡ is_short section.now room ⌝ }
+    ensures { result ≡ is_short section.now room }
 {
     room < section.len() + 2
 }
 
 fn is_either_short(section: &[f64], room0: usize, room1: usize) -> bool
-    ensures* { λ r. ⌜ r ≡ (is_short section.now room0 || is_short section.now room1) ⌝ }
+    ensures { result ≡ (is_short section.now room0 || is_short section.now room1) }
 {
     if is_short(section, room0) {
         return true;
@@ -111,7 +113,7 @@ fn is_either_short(section: &[f64], room0: usize, room1: usize) -> bool
 fn cut(points: &[f64], tol: f64, given: usize, out: &mut [f64]) -> Piece
     requires points_len { (length points.now ≡ 2 * given) × (1 ≤ given) }
     requires points_in_bounds { length points.now ≤ length out.old }
-    ensures* { λ r. ⌜ Cut (result (record { points = kept tol (points_of points.entry.now); given = given })) tol out.old out.new (PieceAnswer.Value r) ⌝ }
+    ensures { Cut (answered (record { points = kept tol (points_of points.now); given = given })) tol out.old out.new (PieceAnswer.Value result) }
 {
     let c = cleaning::checked::keep_points(points, tol, out);
     let count = c.count;
@@ -127,7 +129,7 @@ fn cut(points: &[f64], tol: f64, given: usize, out: &mut [f64]) -> Piece
 fn between(section: &[f64], tol: f64, l0: f64, l1: f64, out: &mut [f64]) -> PieceAnswer
     requires section { IsSection section.now tol × (length section.now ≤ 2 * most_cleaned) }
     requires section_in_bounds { length section.now + 2 ≤ length out.old }
-    ensures* { λ r. ⌜ Cut (stretch_of section.now tol l0 l1) tol out.old out.new r ⌝ }
+    ensures { Cut (stretch_of section.now tol l0 l1) tol out.old out.new result }
 {
     let mut points = [0.0; MOST_GIVEN];
     match stretch::give(section, tol, l0, l1, &mut points) {
@@ -153,7 +155,7 @@ fn split(
 ) -> PiecesAnswer
     requires section { IsSection section.now tol × (length section.now ≤ 2 * most_cleaned) }
     requires section_in_bounds { (length section.now + 2 ≤ length out0.old) × (length section.now + 2 ≤ length out1.old) }
-    ensures* { λ r. ⌜ CutInTwo (both_of (stretch_of section.now tol a0 a1) (stretch_of section.now tol b0 b1)) tol out0.old out0.new out1.old out1.new r ⌝ }
+    ensures { CutInTwo (both_of (stretch_of section.now tol a0 a1) (stretch_of section.now tol b0 b1)) tol out0.old out0.new out1.old out1.new result }
 {
     let mut first = [0.0; MOST_GIVEN];
     let mut second = [0.0; MOST_GIVEN];
@@ -179,7 +181,7 @@ fn split(
 
 // The part of a section between two lengths along, which runs over the seam of a closed section where the second length lies before the first.
 pub fn between_lengths(section: &[f64], tol: f64, l0: f64, l1: f64, out: &mut [f64]) -> PieceAnswer
-    ensures* { λ r. ⌜ Cut (between_lengths section.now tol l0 l1 (length out.old)) tol out.old out.new r ⌝ }
+    ensures { Cut (between_lengths section.now tol l0 l1 (length out.old)) tol out.old out.new result }
 {
     let good = are_finite(l0, l1);
     let short = is_short(section, out.len());
@@ -197,7 +199,7 @@ pub fn split_open_at_length(
     out0: &mut [f64],
     out1: &mut [f64],
 ) -> PiecesAnswer
-    ensures* { λ r. ⌜ CutInTwo (split_open section.now tol at (length out0.old) (length out1.old)) tol out0.old out0.new out1.old out1.new r ⌝ }
+    ensures { CutInTwo (split_open section.now tol at (length out0.old) (length out1.old)) tol out0.old out0.new out1.old out1.new result }
 {
     let good = errors::is_finite(at);
     let short = is_either_short(section, out0.len(), out1.len());
@@ -222,7 +224,7 @@ pub fn split_closed_at_lengths(
     out0: &mut [f64],
     out1: &mut [f64],
 ) -> PiecesAnswer
-    ensures* { λ r. ⌜ CutInTwo (split_closed section.now tol length0 length1 (length out0.old) (length out1.old)) tol out0.old out0.new out1.old out1.new r ⌝ }
+    ensures { CutInTwo (split_closed section.now tol length0 length1 (length out0.old) (length out1.old)) tol out0.old out0.new out1.old out1.new result }
 {
     let good = are_finite(length0, length1);
     let short = is_either_short(section, out0.len(), out1.len());

@@ -15,7 +15,7 @@ use errors::{Refusal, ScalarAnswer};
 use sections::BoolAnswer;
 
 // Where the walk is: a station, and the lengths at both vertices of its edge.
-#[derive(Drop)]
+#[derive(Clone, Copy)]
 pub struct Working {
     pub station: CurveStation2,
     pub m: f64,
@@ -23,7 +23,7 @@ pub struct Working {
 }
 
 // One turn of the walk.
-#[derive(Drop)]
+#[derive(Clone, Copy)]
 pub enum Turn {
     Stopped,
     Next(Working),
@@ -31,27 +31,27 @@ pub enum Turn {
 }
 
 // What a leg put, and whether it went over the last index.
-#[derive(Drop)]
+#[derive(Clone, Copy)]
 pub struct LegKept {
     pub kept: Kept,
     pub over: bool,
 }
 
-#[derive(Drop)]
+#[derive(Clone, Copy)]
 pub enum LegAnswer {
     Value(LegKept),
     Refused(Refusal),
 }
 
 // How many points were put and the last of them, or why there are none.
-#[derive(Drop)]
+#[derive(Clone, Copy)]
 pub enum PutAnswer {
     Value(Kept),
     Refused(Refusal),
 }
 
 // How many points are given, or why there are none.
-#[derive(Drop)]
+#[derive(Clone, Copy)]
 pub enum CountAnswer {
     Value(usize),
     Refused(Refusal),

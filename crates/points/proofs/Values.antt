@@ -1,5 +1,5 @@
 -- Operations of binary64 on values at or above zero: each rounds the fraction that it stands for. Assumes nothing.
-use mathlib.Core.Path.{◌≡◌, ap, ap₂, ◌∙◌, sym, subst}
+use mathlib.Core.Path.{◌≡◌, ap, ap₂, sym, subst}
 use mathlib.Core.Bool.{false}
 use Prim.Native.Nat.{ℕ, ◌+◌, ◌-◌, ◌*◌, ◌≤◌, ◌<◌}
 use native.Mathlib.Nat.{mul-pos, le_of_mul-le-mul_right, eq_of_mul-eq-mul_right}

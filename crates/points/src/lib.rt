@@ -1,4 +1,6 @@
 // Points and vectors by value, and the steps on them.
+#![tactic(auto)]
+
 pub mod segment2;
 
 ghost use Rattle.std.specs.Prelude.{◌≡◌};
@@ -8,34 +10,34 @@ ghost use Rattle.points.specs.Points.{watched_point, watched_vector, rotated, di
 
 use errors::{Refusal, ScalarAnswer};
 
-#[derive(Drop)]
+#[derive(Clone, Copy)]
 pub struct Point2 {
     pub x: f64,
     pub y: f64,
 }
 
-#[derive(Drop)]
+#[derive(Clone, Copy)]
 pub struct Vector2 {
     pub x: f64,
     pub y: f64,
 }
 
 // A direction of rotation.
-#[derive(Drop)]
+#[derive(Clone, Copy)]
 pub enum AngleDir {
     Cw,
     Ccw,
 }
 
 // A point, or why there is none.
-#[derive(Drop)]
+#[derive(Clone, Copy)]
 pub enum PointAnswer {
     Value(Point2),
     Refused(Refusal),
 }
 
 // A vector, or why there is none.
-#[derive(Drop)]
+#[derive(Clone, Copy)]
 pub enum VectorAnswer {
     Value(Vector2),
     Refused(Refusal),

@@ -8,7 +8,7 @@ use crate::{Point2, PointAnswer, Vector2};
 use errors::{Refusal, ScalarAnswer};
 
 // The nearest point of an edge: the point, its fraction along the edge and its squared distance.
-#[derive(Drop)]
+#[derive(Clone, Copy)]
 pub struct EdgePoint {
     pub point: Point2,
     pub fraction: f64,
@@ -16,7 +16,7 @@ pub struct EdgePoint {
 }
 
 // The nearest point of an edge, or why there is none.
-#[derive(Drop)]
+#[derive(Clone, Copy)]
 pub enum EdgePointAnswer {
     Value(EdgePoint),
     Refused(Refusal),

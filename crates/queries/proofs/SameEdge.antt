@@ -4,7 +4,6 @@ use mathlib.Core.Path.{◌≡◌, refl, ap}
 use mathlib.Core.Bool.{Bool, ◌&&◌}
 use mathlib.Core.List.{List, [], ◌∷◌}
 use mathlib.Core.Option.{Option}
-use Prim.Native.Nat.{ℕ}
 use borrow.Author.Tests.{ne_eqb}
 use lib.Dec.{eqb}
 use lib.Ieee.{Float}
@@ -14,7 +13,7 @@ use Rattle.queries.specs.Hits.{section_edges, hits_from, hits_of, sorted, nearby
 use Rattle.queries.specs.Crossing.{span_of, crossed, crossing_with, crossing_of}
 use Rattle.queries.specs.declared.Hit.{Hit}
 use Rattle.queries.specs.declared.Crossing.{Crossing}
-use Rattle.queries.proofs.CrossingLaws.{Other, Distinct, Rising, hits_rise, distinct_sorted}
+use Rattle.queries.proofs.CrossingLaws.{Other, Distinct, hits_rise, distinct_sorted}
 
 -- "on the same edge and nearer than 1e-8"
 abbrev pub nearby_on_edge : Hit → Hit → Bool

@@ -13,7 +13,7 @@ use points::{Point2, segment2};
 // The nearest point of the edge whose first point's numbers start at i.
 pub(crate) fn closest_at(section: &[f64], i: usize, p: Point2) -> EdgePointAnswer
     requires { i + 3 < length section.now }
-    ensures* { λ r. ⌜ listed_edge_point r ≡ closest_on_edge p (point_at section.now i) (point_at section.now (i + 2)) ⌝ }
+    ensures { listed_edge_point result ≡ closest_on_edge p (point_at section.now i) (point_at section.now (i + 2)) }
 {
     let i1 = i + 1;
     let i2 = i + 2;
@@ -34,7 +34,7 @@ pub(crate) fn closest_at(section: &[f64], i: usize, p: Point2) -> EdgePointAnswe
 pub(crate) fn closest_after(section: &[f64], p: Point2, first: EdgePoint) -> NearestAnswer
     requires has_points { HasPoints section.now }
     requires section_value { closest_on_edge p (point_at section.now 0) (point_at section.now 2) ≡ result first }
-    ensures* { λ r. ⌜ listed_nearest r ≡ nearest_of section.now p ⌝ }
+    ensures { listed_nearest result ≡ nearest_of section.now p }
 {
     let mut least = first.square;
     let mut start: usize = 0;

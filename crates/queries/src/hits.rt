@@ -10,7 +10,7 @@ use line2::{Line2, ParamsAnswer};
 use points::{Point2, Vector2};
 
 // The hit of one edge: its fraction along the line, none, or a refusal.
-#[derive(Drop)]
+#[derive(Clone, Copy)]
 pub enum HitAnswer {
     At(f64),
     Missed,
@@ -18,7 +18,7 @@ pub enum HitAnswer {
 }
 
 // The hits so far, as far as a crossing needs them.
-#[derive(Drop)]
+#[derive(Clone, Copy)]
 pub enum Seen {
     Nothing,
     One(Hit),
@@ -27,7 +27,7 @@ pub enum Seen {
 }
 
 // The hits of all edges, or a refusal.
-#[derive(Drop)]
+#[derive(Clone, Copy)]
 pub enum SeenAnswer {
     Value(Seen),
     Refused(Refusal),

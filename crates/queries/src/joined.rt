@@ -15,7 +15,7 @@ use line2::Line2;
 pub(crate) const MOST_EDGES: usize = MOST_POINTS - 1;
 
 // How many hits there are, or a refusal.
-#[derive(Drop)]
+#[derive(Clone, Copy)]
 pub enum CountAnswer {
     Value(usize),
     Refused(Refusal),

@@ -1,4 +1,6 @@
 // Where a line crosses a section, and which of its points is nearest to a point. The functions of `checked` take a section that passed the entry tests.
+#![tactic(auto)]
+
 pub mod checked;
 
 ghost use Rattle.std.specs.Prelude.{◌≡◌};
@@ -14,28 +16,28 @@ mod hits;
 mod joined;
 
 // A hit of a line: its fraction along the line, and its edge.
-#[derive(Drop)]
+#[derive(Clone, Copy)]
 pub struct Hit {
     pub t: f64,
     pub edge: usize,
 }
 
 // The edges of the two hits of a crossing, in the order of its two points.
-#[derive(Drop)]
+#[derive(Clone, Copy)]
 pub struct HitEdges {
     pub first: usize,
     pub second: usize,
 }
 
 // A line whose ends, at 0 and at 1, are its two hits, and their edges.
-#[derive(Drop)]
+#[derive(Clone, Copy)]
 pub struct Crossing {
     pub line: Line2,
     pub edges: HitEdges,
 }
 
 // A crossing, none where there aren't exactly two hits, or a refusal.
-#[derive(Drop)]
+#[derive(Clone, Copy)]
 pub enum CrossingAnswer {
     Value(Crossing),
     Missed,
@@ -43,7 +45,7 @@ pub enum CrossingAnswer {
 }
 
 // The crossing of a line asked for directly, or why there is none.
-#[derive(Drop)]
+#[derive(Clone, Copy)]
 pub enum CrossingAsked {
     Value(Crossing),
     Refused(Refusal),
@@ -61,14 +63,14 @@ pub fn asked(found: CrossingAnswer) -> CrossingAsked
 }
 
 // The nearest point of a section: its edge, and the point on it.
-#[derive(Drop)]
+#[derive(Clone, Copy)]
 pub struct Nearest {
     pub index: usize,
     pub at: EdgePoint,
 }
 
 // The nearest point, or why there is none.
-#[derive(Drop)]
+#[derive(Clone, Copy)]
 pub enum NearestAnswer {
     Value(Nearest),
     Refused(Refusal),

@@ -1,4 +1,6 @@
 // Refinement: `refine_and_push` as a run counted in units, within a limit.
+#![tactic(auto)]
+
 pub mod checked;
 mod moves;
 mod waiting;
@@ -17,7 +19,7 @@ use inscribed::Inscribed;
 pub(crate) const MOST_WAITING: usize = 64;
 
 // How a run ends: finished, spent, or refused.
-#[derive(Drop)]
+#[derive(Clone, Copy)]
 pub enum RunEnd {
     Finished,
     // One more unit is wanted than the limit: 14.
@@ -26,7 +28,7 @@ pub enum RunEnd {
 }
 
 // What a run returns: its ending, the count of circles in the store, and the units taken.
-#[derive(Drop)]
+#[derive(Clone, Copy)]
 pub struct Run {
     pub end: RunEnd,
     pub count: usize,
@@ -34,7 +36,7 @@ pub struct Run {
 }
 
 // What a call of a run returns: refused on entry, the number alone; else what the run returns.
-#[derive(Drop)]
+#[derive(Clone, Copy)]
 pub enum RunAnswer {
     Ran(Run),
     Refused(Refusal),

@@ -1,4 +1,6 @@
 // Square roots of f64, correctly rounded, and the root asked for directly.
+#![tactic(auto)]
+
 pub mod digits;
 pub mod isqrt;
 

@@ -1,9 +1,9 @@
 -- What is told of a result and of a refusal. Assumes nothing.
 use mathlib.Core.Path.{◌≡◌, refl}
 use Prim.Native.Nat.{ℕ}
-use Rattle.errors.specs.Answer.{Answer, result, refusal, number_of}
+use Rattle.errors.specs.Answer.{result, refusal, number_of}
 use Rattle.errors.specs.declared.Refusal.{Refusal}
-use Rattle.rummyteak.specs.Told.{Told, told_as}
+use Rattle.rummyteak.specs.Told.{told_as}
 
 module _ {A B : Type 0} (f : A → B) (before : B) where
   pub told-result : (a : A) → (record { number = 0; left = f a }) ≡ told_as f before (result a)

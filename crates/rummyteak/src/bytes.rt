@@ -7,8 +7,7 @@ ghost use Rattle.shuffle.specs.Words.{turned};
 use crate::telling;
 
 // Numbers of eight bytes, sorted by byte place.
-#[unsafe(no_mangle)]
-pub extern "C" fn rummyteak_shuffle(bytes: &[u8], out: &mut [u8]) -> u32
+pub fn rummyteak_shuffle(bytes: &[u8], out: &mut [u8]) -> u32
     ensures value { result ≡ number (bytes_entry (length bytes.now) (length out.old)) }
     ensures out_after { out.new ≡ output_after (bytes_entry (length bytes.now) (length out.old)) (shuffled bytes.now) out.old }
 {
@@ -16,8 +15,7 @@ pub extern "C" fn rummyteak_shuffle(bytes: &[u8], out: &mut [u8]) -> u32
 }
 
 // The inverse.
-#[unsafe(no_mangle)]
-pub extern "C" fn rummyteak_unshuffle(bytes: &[u8], out: &mut [u8]) -> u32
+pub fn rummyteak_unshuffle(bytes: &[u8], out: &mut [u8]) -> u32
     ensures value { result ≡ number (bytes_entry (length bytes.now) (length out.old)) }
     ensures out_after { out.new ≡ output_after (bytes_entry (length bytes.now) (length out.old)) (unshuffled bytes.now) out.old }
 {
@@ -25,8 +23,7 @@ pub extern "C" fn rummyteak_unshuffle(bytes: &[u8], out: &mut [u8]) -> u32
 }
 
 // The turn of eight words. It refuses nothing.
-#[unsafe(no_mangle)]
-pub extern "C" fn rummyteak_transpose_words(words: &mut [u64; 8]) -> u32
+pub fn rummyteak_transpose_words(words: &mut [u64; 8]) -> u32
     ensures value { result ≡ 0 }
     ensures words_after { words.new ≡ turned words.old }
 {

@@ -10,8 +10,7 @@ use line2::Line2;
 use points::{Point2, Vector2};
 
 // The circle of a line that is taken as a crossing.
-#[unsafe(no_mangle)]
-pub extern "C" fn rummyteak_inscribed_from_crossing(
+pub fn rummyteak_inscribed_from_crossing(
     section: &[f64],
     section_tol: f64,
     tol: f64,
@@ -33,8 +32,7 @@ pub extern "C" fn rummyteak_inscribed_from_crossing(
 }
 
 // The circle on a line, and the edges of the line's crossing.
-#[unsafe(no_mangle)]
-pub extern "C" fn rummyteak_try_inscribed(
+pub fn rummyteak_try_inscribed(
     section: &[f64],
     section_tol: f64,
     tol: f64,
@@ -58,8 +56,7 @@ pub extern "C" fn rummyteak_try_inscribed(
 }
 
 // The trial between two circles, a the earlier: the circle to add, if there is one.
-#[unsafe(no_mangle)]
-pub extern "C" fn rummyteak_inscribed_refined(
+pub fn rummyteak_inscribed_refined(
     section: &[f64],
     section_tol: f64,
     tol: f64,

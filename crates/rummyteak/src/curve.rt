@@ -8,8 +8,7 @@ use crate::telling;
 use points::Point2;
 
 // The curve of a list of points.
-#[unsafe(no_mangle)]
-pub extern "C" fn rummyteak_from_points(
+pub fn rummyteak_from_points(
     points: &[f64],
     tol: f64,
     force_closed: bool,
@@ -28,8 +27,7 @@ pub extern "C" fn rummyteak_from_points(
 }
 
 // A section's points backwards.
-#[unsafe(no_mangle)]
-pub extern "C" fn rummyteak_reversed(
+pub fn rummyteak_reversed(
     points: &[f64],
     tol: f64,
     out: &mut [f64],
@@ -47,8 +45,7 @@ pub extern "C" fn rummyteak_reversed(
 }
 
 // The curve through the centres of the circles in use.
-#[unsafe(no_mangle)]
-pub extern "C" fn rummyteak_camber_curve(
+pub fn rummyteak_camber_curve(
     store: &[f64],
     count: usize,
     tol: f64,
@@ -67,8 +64,7 @@ pub extern "C" fn rummyteak_camber_curve(
 }
 
 // The same from a leading edge point to a trailing edge point.
-#[unsafe(no_mangle)]
-pub extern "C" fn rummyteak_make_camber_curve(
+pub fn rummyteak_make_camber_curve(
     le_x: f64,
     le_y: f64,
     te_x: f64,

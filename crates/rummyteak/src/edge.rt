@@ -6,8 +6,7 @@ ghost use Rattle.rummyteak.specs.Told.{told, told_run, point_left};
 use crate::telling;
 
 // Whether a section is open at one end of its circles.
-#[unsafe(no_mangle)]
-pub extern "C" fn rummyteak_is_open_at_end(
+pub fn rummyteak_is_open_at_end(
     section: &[f64],
     section_tol: f64,
     tol: f64,
@@ -25,8 +24,7 @@ pub extern "C" fn rummyteak_is_open_at_end(
 }
 
 // The open edge of a section at one end of its circles, within a limit of units.
-#[unsafe(no_mangle)]
-pub extern "C" fn rummyteak_fit_open_edge(
+pub fn rummyteak_fit_open_edge(
     section: &[f64],
     section_tol: f64,
     tol: f64,

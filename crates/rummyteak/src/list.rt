@@ -12,8 +12,7 @@ use curve2::Entry;
 use inscribed::store::WIDTH;
 
 // The first and the last circle in use.
-#[unsafe(no_mangle)]
-pub extern "C" fn rummyteak_front_and_back(
+pub fn rummyteak_front_and_back(
     store: &[f64],
     count: usize,
     front: &mut [f64; WIDTH],
@@ -25,32 +24,28 @@ pub extern "C" fn rummyteak_front_and_back(
 }
 
 // The place of the thickest circle in use.
-#[unsafe(no_mangle)]
-pub extern "C" fn rummyteak_index_of_tmax(store: &[f64], count: usize, place: &mut usize) -> u32
+pub fn rummyteak_index_of_tmax(store: &[f64], count: usize, place: &mut usize) -> u32
     ensures { (record { number = result; left = place.new }) ≡ told place.old (tmax_asked store.now count) }
 {
     telling::tell_place(lists::index_of_tmax(store, count), place)
 }
 
 // The mean distance of neighbouring centres.
-#[unsafe(no_mangle)]
-pub extern "C" fn rummyteak_average_spacing(store: &[f64], count: usize, spacing: &mut f64) -> u32
+pub fn rummyteak_average_spacing(store: &[f64], count: usize, spacing: &mut f64) -> u32
     ensures { (record { number = result; left = spacing.new }) ≡ told spacing.old (spacing_asked store.now count) }
 {
     telling::tell_scalar(lists::average_spacing(store, count), spacing)
 }
 
 // The line that clips the end of the circles in use.
-#[unsafe(no_mangle)]
-pub extern "C" fn rummyteak_end_clip_line(store: &[f64], count: usize, line: &mut [f64; 4]) -> u32
+pub fn rummyteak_end_clip_line(store: &[f64], count: usize, line: &mut [f64; 4]) -> u32
     ensures { (record { number = result; left = line.new }) ≡ told_as line_numbers line.old (clip_asked store.now count) }
 {
     telling::tell_line(lists::end_clip_line(store, count), line)
 }
 
 // Swaps the contacts of every circle in use.
-#[unsafe(no_mangle)]
-pub extern "C" fn rummyteak_reverse_points(store: &mut [f64], count: usize) -> u32
+pub fn rummyteak_reverse_points(store: &mut [f64], count: usize) -> u32
     ensures value { result ≡ number (store_entry store.old count) }
     ensures store_after { store.new ≡ unless_refused (store_entry store.old count) (stored (map reversed_points (circles_of store.old count)) store.old) store.old }
 {
@@ -58,8 +53,7 @@ pub extern "C" fn rummyteak_reverse_points(store: &mut [f64], count: usize) -> u
 }
 
 // Turns the order of the circles in use, and swaps the contacts of each.
-#[unsafe(no_mangle)]
-pub extern "C" fn rummyteak_reverse_order(store: &mut [f64], count: usize) -> u32
+pub fn rummyteak_reverse_order(store: &mut [f64], count: usize) -> u32
     ensures value { result ≡ number (store_entry store.old count) }
     ensures store_after { store.new ≡ unless_refused (store_entry store.old count) (stored (turned (circles_of store.old count)) store.old) store.old }
 {
@@ -67,8 +61,7 @@ pub extern "C" fn rummyteak_reverse_order(store: &mut [f64], count: usize) -> u3
 }
 
 // Turns the order of the circles in use.
-#[unsafe(no_mangle)]
-pub extern "C" fn rummyteak_reverse_order_only(store: &mut [f64], count: usize) -> u32
+pub fn rummyteak_reverse_order_only(store: &mut [f64], count: usize) -> u32
     ensures value { result ≡ number (store_entry store.old count) }
     ensures store_after { store.new ≡ unless_refused (store_entry store.old count) (stored (reverse (circles_of store.old count)) store.old) store.old }
 {
@@ -76,8 +69,7 @@ pub extern "C" fn rummyteak_reverse_order_only(store: &mut [f64], count: usize) 
 }
 
 // Where the circles in use from a place on start in the store, and how many numbers they have.
-#[unsafe(no_mangle)]
-pub extern "C" fn rummyteak_circles_from(
+pub fn rummyteak_circles_from(
     store: &[f64],
     count: usize,
     place: usize,

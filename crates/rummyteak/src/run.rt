@@ -12,8 +12,7 @@ use line2::Line2;
 use points::{Point2, Vector2};
 
 // A circle offered to a store that holds `stated`, refined within a limit of units.
-#[unsafe(no_mangle)]
-pub extern "C" fn rummyteak_refine_and_push(
+pub fn rummyteak_refine_and_push(
     section: &[f64],
     section_tol: f64,
     tol: f64,
@@ -35,8 +34,7 @@ pub extern "C" fn rummyteak_refine_and_push(
 }
 
 // The circles on one side of a line, within a limit of units, and the edges of the line's crossing once that is found.
-#[unsafe(no_mangle)]
-pub extern "C" fn rummyteak_march(
+pub fn rummyteak_march(
     section: &[f64],
     section_tol: f64,
     tol: f64,
@@ -63,8 +61,7 @@ pub extern "C" fn rummyteak_march(
 }
 
 // The circles on both sides of a line, within a limit of units.
-#[unsafe(no_mangle)]
-pub extern "C" fn rummyteak_extract_circles(
+pub fn rummyteak_extract_circles(
     section: &[f64],
     section_tol: f64,
     tol: f64,

@@ -8,24 +8,21 @@ use line2::Line2;
 use points::{Point2, Vector2};
 
 // Whether a section is closed.
-#[unsafe(no_mangle)]
-pub extern "C" fn rummyteak_is_closed(section: &[f64], tol: f64, is_closed: &mut bool) -> u32
+pub fn rummyteak_is_closed(section: &[f64], tol: f64, is_closed: &mut bool) -> u32
     ensures { (record { number = result; left = is_closed.new }) ≡ told is_closed.old (closed_asked section.now tol) }
 {
     telling::tell_bool(sections::is_closed(section, tol), is_closed)
 }
 
 // The length of a whole section.
-#[unsafe(no_mangle)]
-pub extern "C" fn rummyteak_length(section: &[f64], tol: f64, length: &mut f64) -> u32
+pub fn rummyteak_length(section: &[f64], tol: f64, length: &mut f64) -> u32
     ensures { (record { number = result; left = length.new }) ≡ told length.old (length_asked section.now tol) }
 {
     telling::tell_scalar(sections::length(section, tol), length)
 }
 
 // The station at the first point.
-#[unsafe(no_mangle)]
-pub extern "C" fn rummyteak_at_front(
+pub fn rummyteak_at_front(
     section: &[f64],
     tol: f64,
     station: &mut [f64; 5],
@@ -37,8 +34,7 @@ pub extern "C" fn rummyteak_at_front(
 }
 
 // The station at the last point.
-#[unsafe(no_mangle)]
-pub extern "C" fn rummyteak_at_back(
+pub fn rummyteak_at_back(
     section: &[f64],
     tol: f64,
     station: &mut [f64; 5],
@@ -50,8 +46,7 @@ pub extern "C" fn rummyteak_at_back(
 }
 
 // The station at a vertex.
-#[unsafe(no_mangle)]
-pub extern "C" fn rummyteak_at_vertex(
+pub fn rummyteak_at_vertex(
     section: &[f64],
     tol: f64,
     vertex: usize,
@@ -64,8 +59,7 @@ pub extern "C" fn rummyteak_at_vertex(
 }
 
 // The station at a length along.
-#[unsafe(no_mangle)]
-pub extern "C" fn rummyteak_at_length(
+pub fn rummyteak_at_length(
     section: &[f64],
     tol: f64,
     length: f64,
@@ -78,8 +72,7 @@ pub extern "C" fn rummyteak_at_length(
 }
 
 // The station nearest to a point.
-#[unsafe(no_mangle)]
-pub extern "C" fn rummyteak_at_closest_to_point(
+pub fn rummyteak_at_closest_to_point(
     section: &[f64],
     tol: f64,
     x: f64,
@@ -98,8 +91,7 @@ pub extern "C" fn rummyteak_at_closest_to_point(
 }
 
 // The length along of a fraction of an edge.
-#[unsafe(no_mangle)]
-pub extern "C" fn rummyteak_length_along(
+pub fn rummyteak_length_along(
     section: &[f64],
     tol: f64,
     index: usize,
@@ -115,8 +107,7 @@ pub extern "C" fn rummyteak_length_along(
 }
 
 // Where a line crosses a section, and on which edges.
-#[unsafe(no_mangle)]
-pub extern "C" fn rummyteak_crossing_line(
+pub fn rummyteak_crossing_line(
     section: &[f64],
     tol: f64,
     ox: f64,
@@ -135,8 +126,7 @@ pub extern "C" fn rummyteak_crossing_line(
 }
 
 // The same, where hits near each other count as one.
-#[unsafe(no_mangle)]
-pub extern "C" fn rummyteak_joined_crossing(
+pub fn rummyteak_joined_crossing(
     section: &[f64],
     tol: f64,
     ox: f64,

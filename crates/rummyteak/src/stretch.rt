@@ -6,8 +6,7 @@ ghost use Rattle.rummyteak.specs.Told.{told_as, told, piece_cells, pieces_cells,
 use crate::telling;
 
 // The part between two lengths along.
-#[unsafe(no_mangle)]
-pub extern "C" fn rummyteak_between_lengths(
+pub fn rummyteak_between_lengths(
     section: &[f64],
     tol: f64,
     l0: f64,
@@ -29,8 +28,7 @@ pub extern "C" fn rummyteak_between_lengths(
 }
 
 // An open section split at a length along.
-#[unsafe(no_mangle)]
-pub extern "C" fn rummyteak_split_open_at_length(
+pub fn rummyteak_split_open_at_length(
     section: &[f64],
     tol: f64,
     at: f64,
@@ -53,8 +51,7 @@ pub extern "C" fn rummyteak_split_open_at_length(
 }
 
 // A closed section split at two lengths along.
-#[unsafe(no_mangle)]
-pub extern "C" fn rummyteak_split_closed_at_lengths(
+pub fn rummyteak_split_closed_at_lengths(
     section: &[f64],
     tol: f64,
     l0: f64,

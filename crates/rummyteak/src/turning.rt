@@ -8,12 +8,7 @@ use orient::{OrientFwdAft, OrientUpperLower};
 use points::Vector2;
 
 // Brings the circles in use into leading-to-trailing order, by greatest radius.
-#[unsafe(no_mangle)]
-pub extern "C" fn rummyteak_orient_tmax_fwd(
-    store: &mut [f64],
-    count: usize,
-    turned: &mut bool,
-) -> u32
+pub fn rummyteak_orient_tmax_fwd(store: &mut [f64], count: usize, turned: &mut bool) -> u32
     ensures turned_after { (record { number = result; left = turned.new }) ≡ told turned.old (fwd_asked OrientFwdAft.TmaxFwd store.old count) }
     ensures store_after { store.new ≡ fwd_store OrientFwdAft.TmaxFwd store.old count }
 {
@@ -22,8 +17,7 @@ pub extern "C" fn rummyteak_orient_tmax_fwd(
 }
 
 // The same by the direction of the airflow.
-#[unsafe(no_mangle)]
-pub extern "C" fn rummyteak_orient_airflow(
+pub fn rummyteak_orient_airflow(
     x: f64,
     y: f64,
     store: &mut [f64],
@@ -39,8 +33,7 @@ pub extern "C" fn rummyteak_orient_airflow(
 }
 
 // The same by a direction that points forward.
-#[unsafe(no_mangle)]
-pub extern "C" fn rummyteak_orient_fwd(
+pub fn rummyteak_orient_fwd(
     x: f64,
     y: f64,
     store: &mut [f64],
@@ -56,12 +49,7 @@ pub extern "C" fn rummyteak_orient_fwd(
 }
 
 // Brings the first contact of each circle in use to the lower side, by the side to which the camber bends.
-#[unsafe(no_mangle)]
-pub extern "C" fn rummyteak_orient_curvature(
-    store: &mut [f64],
-    count: usize,
-    swapped: &mut bool,
-) -> u32
+pub fn rummyteak_orient_curvature(store: &mut [f64], count: usize, swapped: &mut bool) -> u32
     ensures swapped_after { (record { number = result; left = swapped.new }) ≡ told swapped.old (upper_asked OrientUpperLower.Curvature store.old count) }
     ensures store_after { store.new ≡ upper_store OrientUpperLower.Curvature store.old count }
 {
@@ -70,8 +58,7 @@ pub extern "C" fn rummyteak_orient_curvature(
 }
 
 // The same by a direction that points to the upper side.
-#[unsafe(no_mangle)]
-pub extern "C" fn rummyteak_orient_upper(
+pub fn rummyteak_orient_upper(
     x: f64,
     y: f64,
     store: &mut [f64],
@@ -87,8 +74,7 @@ pub extern "C" fn rummyteak_orient_upper(
 }
 
 // The same by a direction that points to the lower side.
-#[unsafe(no_mangle)]
-pub extern "C" fn rummyteak_orient_lower(
+pub fn rummyteak_orient_lower(
     x: f64,
     y: f64,
     store: &mut [f64],

@@ -16,7 +16,7 @@ module _ {S E : Type 0} (first second : S → Move S E) (measure : S → ℕ) (f
     pub as_it_is : (o.ending ≡ ended e → ⊥) → (o.ending ≡ unfinished → ⊥) → whole second measure full s u ≡ o
 
   moved : (s t : S) (u v : ℕ) (o : Final S E) → whole second measure full s u ≡ whole second measure full t v → Sequel t v o → Sequel s u o
-  moved s t u v o p q = record { goes_on = λ k. p ∙ q.goes_on k; as_it_is = λ k m. p ∙ q.as-it-is k m }
+  moved s t u v o p q = record { goes_on = λ k. p ∙ q.goes_on k; as_it_is = λ k m. p ∙ q.as_it_is k m }
 
   pub sequel : (f : ℕ) (s : S) (u : ℕ) → Same s → Sequel s u (run first full f s u)
   unfolding next

@@ -1,4 +1,6 @@
 // What is asked of a section handed in. Each function makes the entry tests, and then its step.
+#![tactic(auto)]
+
 pub mod checked;
 
 ghost use Rattle.std.specs.Prelude.{◌≡◌, false, ltb};
@@ -17,21 +19,21 @@ use queries::CrossingAsked;
 mod lengths;
 
 // Yes or no, or why there is neither.
-#[derive(Drop)]
+#[derive(Clone, Copy)]
 pub enum BoolAnswer {
     Value(bool),
     Refused(Refusal),
 }
 
 // The lengths along of two places.
-#[derive(Drop)]
+#[derive(Clone, Copy)]
 pub struct LengthPair {
     pub first: f64,
     pub second: f64,
 }
 
 // Both lengths, or why there are none.
-#[derive(Drop)]
+#[derive(Clone, Copy)]
 pub enum LengthPairAnswer {
     Value(LengthPair),
     Refused(Refusal),

@@ -1,6 +1,5 @@
 -- Laws of the bytes of words: of a word made of bytes, of masks and shifts. Assumes nothing.
 use mathlib.Core.Path.{◌≡◌, refl, ◌∙◌, sym}
-use mathlib.Core.List.{[]}
 use Prim.Native.Nat.{ℕ, zero, suc, ◌+◌, ◌-◌, ◌*◌, ◌/◌, ◌%◌, ◌^◌, ◌≤◌, ◌<◌}
 use native.Mathlib.Nat.{mod-lt, mul-mod_left, mul_assoc, pow-zero, div-one}
 use native.Mathlib.Omega.{arith}

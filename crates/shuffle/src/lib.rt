@@ -1,4 +1,6 @@
 // Stored numbers sorted by byte place, and back: like bytes lie together, which archives store better.
+#![tactic(auto)]
+
 mod moving;
 pub mod words;
 

@@ -1,51 +1,33 @@
--- The sums done by hand that are marked P: one row each, and one claim for all of them. Assumes nothing.
-use Rattle.std.specs.Prelude.{◌≡◌, refl, Bool, true, false, List, [], ◌∷◌, ◌++◌, ℕ, Float}
-use Rattle.std.specs.Int.Count.{count_trailing_zeros}
+-- The sums done by hand that are marked P: one row each. The one claim for all of them stands in proofs/Rows. Assumes nothing.
+use Rattle.std.specs.Prelude.{◌≡◌, Bool, true, false, List, [], ◌∷◌, ℕ, Float}
 use Rattle.std.specs.Float.{binary64}
-use Rattle.std.specs.Float.Ieee.{of_bits, of_fields, odd, units, round, size, span, climb, neg, sum, add, sub, mul, div, lt, eq, le}
+use Rattle.std.specs.Float.Ieee.{of_bits, units, neg}
 use Rattle.errors.specs.Answer.{Answer, result, refusal}
-use Rattle.errors.specs.Lists.{last_of}
-use Rattle.root.specs.Sqrt.{root_digits, whole_root, root_of_units, sqrt_of, root_asked}
+use Rattle.root.specs.Sqrt.{root_asked}
 use Rattle.points.specs.Numbers.{◌-f◌, f0, f½, f1}
-use Rattle.points.specs.Points.{dot_of, norm_of, dist_of, difference, normalized, mid_point_of}
 use Rattle.points.specs.declared.Vector2.{Vector2}
-use Rattle.line2.specs.Lines.{line_of, line_through, at_param, line_projection, line_normalized}
-use Rattle.line2.specs.Intersection.{intersection_param}
+use Rattle.line2.specs.Lines.{line_of}
 use Rattle.line2.specs.declared.Line2.{Line2}
-use Rattle.curve2.specs.Section.{point, points_of, plain_dist, ends_meet, is_closed, lengths_from, lengths_of, whole_length}
-use Rattle.curve2.specs.Entry.{bad_numbers, crowded, not_rising, section_entry}
-use Rattle.cleaning.specs.Cleaning.{kept_after, kept, forced_closed, curve_of, cleaned}
-use Rattle.queries.specs.Hits.{edges_of, edge_hit, hits_from, inserted, sorted_into, neighbours, nearby_neighbour, dropped_after, dropped}
-use Rattle.queries.specs.Crossing.{span_of, spanned, crossed, crossing_of, crossing_with}
+use Rattle.curve2.specs.Section.{point}
+use Rattle.cleaning.specs.Cleaning.{cleaned}
 use Rattle.queries.specs.declared.Crossing.{Crossing}
-use Rattle.queries.specs.Nearest.{closest_on_all, least_of, least_of_all, nearest_of}
-use Rattle.points.specs.Closest.{fraction_on, held_point, measured_to, closest_on_edge}
-use Rattle.curve2.specs.Stations.{edge_direction, mean_direction, vertex_direction, at_vertex, station}
-use Rattle.sections.specs.Places.{inside_edge, at_length_from, at_length, length_along, lengths_along, closest_lengths}
-use Rattle.inscribed.specs.Circles.{inscribed, camber_point}
-use Rattle.circles.specs.Asked.{circle_entry, try_asked}
+use Rattle.curve2.specs.Stations.{station}
+use Rattle.inscribed.specs.Circles.{inscribed}
+use Rattle.circles.specs.Asked.{try_asked}
 use Rattle.circles.specs.declared.CircleOnLine.{CircleOnLine}
-use Rattle.halving.specs.Halving.{moved_ends, halved, circle_between, halving, halved_from, resolve_tol, first_ends, from_line, from_crossing, circle_on, try_inscribed}
+use Rattle.halving.specs.Halving.{halving, resolve_tol, first_ends}
 use Rattle.sections.specs.Asked.{at_length_asked, crossing_asked, joined_asked}
-use Rattle.inscribed.specs.Store.{numbers_of, circle_from, circles_from, all_numbers, stored, bad_circle, any_bad}
+use Rattle.inscribed.specs.Store.{all_numbers}
 use Rattle.inscribed.specs.declared.Inscribed.{Inscribed}
-use Rattle.line2.specs.Rays.{ray_normalized, ray_projection, at_distance, shifted_ray, halfway_ray}
-use Rattle.circles.specs.Trial.{judged, tried_on, trial}
-use Rattle.runs.specs.Run.{Ending, ended, spent, next, run, whole}
-use Rattle.refine.specs.Machine.{with_room, after_trial, refine_move, measure, refine_step}
-use Rattle.inscribed.specs.Lists.{front_and_back, tmax_from, tmax}
-use Rattle.lists.specs.Asked.{store_entry, tmax_asked}
-use Rattle.orient.specs.Votes.{votes_from, majority}
-use Rattle.orient.specs.Orientation.{center_dot, less_forward, dir_fwd, vote_of, dir_upper, orient_entry, fwd_asked, fwd_store, upper_asked, upper_store}
+use Rattle.runs.specs.Run.{Ending, ended, spent}
+use Rattle.lists.specs.Asked.{tmax_asked}
+use Rattle.orient.specs.Orientation.{fwd_store, upper_store}
 use Rattle.orient.specs.declared.OrientFwdAft.TheVariants.{Airflow, Fwd}
 use Rattle.orient.specs.declared.OrientUpperLower.TheVariants.{Upper, Lower}
-use Rattle.lists.specs.Ends.{last_pair, middle_line, faced_line, clip_line, end_camber_ray}
-use Rattle.gap.specs.Gap.{gap_of, cap_point, cap_intersection}
-use Rattle.gap.specs.Probe.{ahead_of, turned_to, across_ray, probe_line, probed}
 use Rattle.refine.specs.Report.{Called, ran, called_number}
 use Rattle.points.specs.declared.Point2.{Point2}
-use Rattle.gap.specs.Rounds.{FitEnd, moved_point, after_move, after_refined, after_probe, round as oneRound, onward, rounds}
-use Rattle.edges.specs.Edges.{start_at_end, fit_start, fit_from, fit_reported, fitted, EdgeInput, edge_entry, fit_after, fit_of}
+use Rattle.gap.specs.Rounds.{FitEnd}
+use Rattle.edges.specs.Edges.{EdgeInput, fit_of}
 use Rattle.errors.specs.declared.Refusal.TheVariants.{GapMissed, NoCrossing, OffCurve, TooFewKept}
 
 -- what the definitions give, and what the sum says
@@ -97,74 +79,74 @@ f0·01 = of_bits binary64 0x3f847ae147ae147b
 -- ---- inputs
 
 -- "R is (0,0) (8,0) (8,2) (0,2) (0,0), section tolerance 0.001"
-R : List Float
+unfoldable pub R : List Float
 R = f0 ∷ f0 ∷ f8 ∷ f0 ∷ f8 ∷ f2 ∷ f0 ∷ f2 ∷ f0 ∷ f0 ∷ []
 
 -- what P2 and P3 clean
-four : List Float
+unfoldable pub four : List Float
 four = f0 ∷ f0 ∷ f½ ∷ f0 ∷ f1 ∷ f0 ∷ f1½ ∷ f0 ∷ []
 
-two : List Float
+unfoldable pub two : List Float
 two = f0 ∷ f0 ∷ f½ ∷ f0 ∷ []
 
-line : Float → Float → Float → Float → Line2
+unfoldable pub line : Float → Float → Float → Float → Line2
 line ox oy dx dy = line_of (point ox oy) (record { x = dx; y = dy })
 
 -- a crossing: its origin and its direction, and the two edges that it hits
-crossing : Float → Float → Float → Float → ℕ → ℕ → Crossing
+unfoldable pub crossing : Float → Float → Float → Float → ℕ → ℕ → Crossing
 unfolding line
 crossing ox oy dx dy i j = record { line = line ox oy dx dy; edges = record { first = i; second = j } }
 
-vector : Float → Float → Vector2
+unfoldable pub vector : Float → Float → Vector2
 vector x y = record { x = x; y = y }
 
 -- "U is R without its last point"
-U : List Float
+unfoldable pub U : List Float
 U = f0 ∷ f0 ∷ f8 ∷ f0 ∷ f8 ∷ f2 ∷ f0 ∷ f2 ∷ []
 
 -- a circle at (x, y), contacts straight below and above on R and U: the lengths along are x and 18 - x
-upright : Float → Float → Float → Inscribed
+unfoldable pub upright : Float → Float → Float → Inscribed
 upright x y r = inscribed (point x y) r (point x f0) (point x f2) x (f18 -f x)
 
 -- a circle at (x, 1), "contacts straight below and above at y 0 and 2"
-circle : Float → Float → Inscribed
+unfoldable pub circle : Float → Float → Inscribed
 unfolding upright
 circle x r = upright x f1 r
 
 -- what stands in a slot that isn't in use
-unused : Inscribed
+unfoldable pub unused : Inscribed
 unused = inscribed (point f0 f0) f0 (point f0 f0) (point f0 f0) f0 f0
 
 -- P9's two circles, and with their contacts swapped
-pair_of_u : List Float
+unfoldable pub pair_of_u : List Float
 unfolding circle
 pair_of_u = all_numbers (circle f4 f1 ∷ circle f5 f1 ∷ [])
 
-swapped_of_u : List Float
+unfoldable pub swapped_of_u : List Float
 swapped_of_u = all_numbers (inscribed (point f4 f1) f1 (point f4 f2) (point f4 f0) (f18 -f f4) f4 ∷ inscribed (point f5 f1) f1 (point f5 f2) (point f5 f0) (f18 -f f5) f5 ∷ [])
 
 -- P10's two circles, and in the other order
-at_x : Float → Inscribed
+unfoldable pub at_x : Float → Inscribed
 at_x x = inscribed (point x f0) f1 (point x (neg f1)) (point x f1) x (f18 -f x)
 
-on_axis : List Float
+unfoldable pub on_axis : List Float
 unfolding at_x
 on_axis = all_numbers (at_x f1 ∷ at_x f5 ∷ [])
 
-turned_on_axis : List Float
+unfoldable pub turned_on_axis : List Float
 unfolding at_x
 turned_on_axis = all_numbers (at_x f5 ∷ at_x f1 ∷ [])
 
 -- the circles of P11 and P12 in a store of three slots
-edge_of_u : Bool → EdgeInput
+unfoldable pub edge_of_u : Bool → EdgeInput
 unfolding U circle unused
 edge_of_u at_front = record { section = U; section_tol = f0·001; tol = f0·01; store = all_numbers (circle f4 f1 ∷ circle f5 f1 ∷ unused ∷ []); count = 2; at_front = at_front }
 
 -- what a fit gives, with its number
-numbered : Called Point2 → ℕ × Called Point2
+unfoldable pub numbered : Called Point2 → ℕ × Called Point2
 numbered c = (called_number c, c)
 
-fit_ran : Ending FitEnd → ℕ → ℕ → List Inscribed → Called Point2
+unfoldable pub fit_ran : Ending FitEnd → ℕ → ℕ → List Inscribed → Called Point2
 fit_ran e count units cs = ran (record { ending = e; count = count; units = units; store = all_numbers cs })
 
 -- 1.00048828125 and 0.99951171875
@@ -184,21 +166,21 @@ narrower = of_bits binary64 0x3feff80000000000
 -- ---- rows
 
 -- root of 25; of 2: "5; hexadecimal bits 3FF6A09E667F3BCD"
-P1 : Row
+unfoldable pub P1 : Row
 P1 = row (root_asked f25 ∷ root_asked f2 ∷ []) (result f5 ∷ result (of_bits binary64 0x3FF6_A09E_667F_3BCD) ∷ [])
 
 -- clean (0,0) (0.5,0) (1,0) (1.5,0), tolerance 0.5, unforced: "(0,0) (1,0)"
-P2 : Row
+unfoldable pub P2 : Row
 unfolding four
 P2 = row (cleaned four f½ false 10) (result (point f0 f0 ∷ point f1 f0 ∷ []))
 
 -- the first two of these: "5"
-P3 : Row
+unfoldable pub P3 : Row
 unfolding two
 P3 = row (cleaned two f½ false 6) (refusal TooFewKept)
 
 -- R at length 9; 20; -0.5: "(8,1) edge 1 fraction 0.5; edge 3 fraction 1; 9". At 20 R is closed, so the direction is that of its first and last edge together.
-P4 : Row
+unfoldable pub P4 : Row
 unfolding R vector
 P4 =
     row
@@ -206,12 +188,12 @@ P4 =
     (result (station (point f8 f1) (vector f0 f1) 1 f½) ∷ result (station (point f0 f0) (vector (of_bits binary64 0x3fe6a09e667f3bcc) (of_bits binary64 0xbfe6a09e667f3bcc)) 3 f1) ∷ refusal OffCurve ∷ [])
 
 -- R, line from (4,1) along (0,1): "(4,0) to (4,2)"; 02 (a): edges 0 and 2
-P5 : Row
+unfoldable pub P5 : Row
 unfolding R line crossing
 P5 = row (crossing_asked R f0·001 (line f4 f1 f0 f1)) (result (crossing f4 f0 f0 f2 0 2))
 
 -- R, from (4,1) along (4,1): "8; joined: (0,0) to (8,2)"; 02 (a): edges 0 and 1, those of the kept hits
-P6 : Row
+unfoldable pub P6 : Row
 unfolding R line crossing
 P6 =
     row
@@ -219,13 +201,13 @@ P6 =
     (refusal NoCrossing ∷ result (crossing f0 f0 f8 f2 0 1) ∷ [])
 
 -- the circle of P5's crossing after at most n halvings: the loop's own test ends it before, or it is made n times
-halved_times : ℕ → Answer Inscribed
+unfoldable pub halved_times : ℕ → Answer Inscribed
 unfolding R line
 halved_times n = halving R (line f4 f0 f0 f2) (resolve_tol f0·01) f2 n (first_ends (point f4 f2) (point f4 f0))
 
 -- P5's crossing, general tolerance 0.01: "11 halvings, centre (4, 1.00048828125), radius 0.99951171875, contacts (4,0), (4,2)".
 -- Eleven halvings give that circle, and ten another: the loop makes eleven. 02 (a): asked for by P5's line, the circle comes with edges 0 and 2; 02 (f): its contacts are at lengths 4 and 14.
-P7 : Row
+unfoldable pub P7 : Row
 unfolding R line crossing halved_times upright
 P7 =
     row {A = Answer CircleOnLine × List (Answer Inscribed)}
@@ -233,23 +215,23 @@ P7 =
     (result (record { circle = upright f4 high narrow; edges = record { first = 0; second = 2 } }), result (upright f4 high narrow) ∷ result (upright f4 higher narrower) ∷ [])
 
 -- radii 1, 3, 3, 2: "thickest at 2"
-P8 : Row
+unfoldable pub P8 : Row
 unfolding circle
 P8 = row (tmax_asked (all_numbers (circle f1 f1 ∷ circle f2 f3 ∷ circle f4 f3 ∷ circle f5 f2 ∷ [])) 4) (result 2)
 
 -- two circles, contact direction (0,2): Lower (1,0); Upper (-1,0): "swapped (product is -0); not"
-P9 : Row
+unfoldable pub P9 : Row
 unfolding pair_of_u swapped_of_u vector
 P9 = row (upper_store (Lower (vector f1 f0)) pair_of_u 2 ∷ upper_store (Upper (vector (neg f1) f0)) pair_of_u 2 ∷ []) (swapped_of_u ∷ pair_of_u ∷ [])
 
 -- centres (1,0), (5,0): Fwd (1,0); Airflow (1,0): "turned; not"
-P10 : Row
+unfoldable pub P10 : Row
 unfolding on_axis turned_on_axis vector
 P10 = row (fwd_store (Fwd (vector f1 f0)) on_axis 2 ∷ fwd_store (Airflow (vector f1 f0)) on_axis 2 ∷ []) (turned_on_axis ∷ on_axis ∷ [])
 
 -- U, 0.01, circles centre (4,1), (5,1), radius 1, contacts straight below and above at y 0 and 2, front, limit 1:
 -- "point (0, 1.00048828125), three circles, centre x 2, 4, 5, one unit"; 02 (f): the new contacts are at lengths 2 and 16
-P11 : Row
+unfoldable pub P11 : Row
 unfolding edge_of_u numbered fit_ran upright circle
 P11 =
     row
@@ -257,43 +239,13 @@ P11 =
     (0, fit_ran (ended (result (point f0 high))) 3 1 (upright f2 high narrow ∷ circle f4 f1 ∷ circle f5 f1 ∷ []))
 
 -- "P11 at the back; P11 with limit 0": "20; 14, two circles"
-P12 : Row
+unfoldable pub P12 : Row
 unfolding edge_of_u numbered fit_ran circle unused
 P12 =
     row
     (numbered (fit_of (edge_of_u false) 1) ∷ numbered (fit_of (edge_of_u true) 0) ∷ [])
     ((20, fit_ran (ended (refusal GapMissed)) 2 0 (circle f4 f1 ∷ circle f5 f1 ∷ unused ∷ [])) ∷ (14, fit_ran spent 2 0 (circle f4 f1 ∷ circle f5 f1 ∷ unused ∷ [])) ∷ [])
 
-table : List Row
+unfoldable pub table : List Row
 unfolding P1 P2 P3 P4 P5 P6 P7 P8 P9 P10 P11 P12
 table = P1 ∷ P2 ∷ P3 ∷ P4 ∷ P5 ∷ P6 ∷ P7 ∷ P8 ∷ P9 ∷ P10 ∷ P11 ∷ P12 ∷ []
-
--- the rows that need no run, and those of the edge fit
-steps_hold : Holds (P1 ∷ P2 ∷ P3 ∷ P4 ∷ P5 ∷ P6 ∷ P7 ∷ P8 ∷ P9 ∷ P10 ∷ [])
-unfolding P1 P2 P3 P4 P5 P6 P7 P8 P9 P10 halved_times R U four two line crossing vector upright circle unused pair_of_u swapped_of_u at_x on_axis turned_on_axis edge_of_u numbered fit_ran sqrt_of root_of_units whole_root root_digits units size span climb odd count_trailing_zeros of_bits of_fields round neg sum add sub mul div lt eq le
-    dot_of norm_of difference normalized line_through at_param intersection_param points_of plain_dist is_closed lengths_from lengths_of whole_length bad_numbers crowded not_rising section_entry kept_after kept last_of ends_meet forced_closed curve_of cleaned
-    edges_of edge_hit hits_from inserted sorted_into neighbours nearby_neighbour dropped_after dropped span_of spanned crossed crossing_of crossing_with edge_direction mean_direction vertex_direction at_vertex inside_edge at_length_from at_length length_along lengths_along closest_lengths at_length_asked crossing_asked joined_asked circle_entry try_asked
-    closest_on_all least_of least_of_all nearest_of fraction_on held_point measured_to closest_on_edge line_projection dist_of moved_ends halved circle_between halving halved_from from_line
-    camber_point numbers_of circle_from circles_from all_numbers stored bad_circle any_bad mid_point_of line_normalized ray_normalized ray_projection at_distance shifted_ray halfway_ray circle_on try_inscribed judged tried_on trial
-    next run whole with_room after_trial refine_move measure refine_step tmax_from tmax store_entry tmax_asked front_and_back center_dot less_forward dir_fwd vote_of votes_from majority dir_upper orient_entry fwd_asked upper_asked last_pair middle_line faced_line clip_line end_camber_ray
-    gap_of cap_point cap_intersection ahead_of turned_to across_ray probe_line probed moved_point after_move after_refined after_probe oneRound onward rounds edge_entry start_at_end fit_start fit_from fit_reported fitted fit_after
-steps_hold = (refl, (refl, (refl, (refl, (refl, (refl, (refl, (refl, (refl, (refl, tt))))))))))
-
-fits_hold : Holds (P11 ∷ P12 ∷ [])
-unfolding P11 P12 halved_times R U four two line crossing vector upright circle unused pair_of_u swapped_of_u at_x on_axis turned_on_axis edge_of_u numbered fit_ran sqrt_of root_of_units whole_root root_digits units size span climb odd count_trailing_zeros of_bits of_fields round neg sum add sub mul div lt eq le
-    dot_of norm_of difference normalized line_through at_param intersection_param points_of plain_dist is_closed lengths_from lengths_of whole_length bad_numbers crowded not_rising section_entry kept_after kept last_of ends_meet forced_closed curve_of cleaned
-    edges_of edge_hit hits_from inserted sorted_into neighbours nearby_neighbour dropped_after dropped span_of spanned crossed crossing_of crossing_with edge_direction mean_direction vertex_direction at_vertex inside_edge at_length_from at_length length_along lengths_along closest_lengths at_length_asked crossing_asked joined_asked circle_entry try_asked
-    closest_on_all least_of least_of_all nearest_of fraction_on held_point measured_to closest_on_edge line_projection dist_of moved_ends halved circle_between halving halved_from from_line
-    camber_point numbers_of circle_from circles_from all_numbers stored bad_circle any_bad mid_point_of line_normalized ray_normalized ray_projection at_distance shifted_ray halfway_ray circle_on try_inscribed judged tried_on trial
-    next run whole with_room after_trial refine_move measure refine_step tmax_from tmax store_entry tmax_asked front_and_back center_dot less_forward dir_fwd vote_of votes_from majority dir_upper orient_entry fwd_asked upper_asked last_pair middle_line faced_line clip_line end_camber_ray
-    gap_of cap_point cap_intersection ahead_of turned_to across_ray probe_line probed moved_point after_move after_refined after_probe oneRound onward rounds edge_entry start_at_end fit_start fit_from fit_reported fitted fit_after
-fits_hold = (refl, (refl, tt))
-
-both_hold : (rs qs : List Row) → Holds rs → Holds qs → Holds (rs ++ qs)
-both_hold [] qs a b = b
-both_hold (row given wanted ∷ rs) qs a b = (a.0, both_hold rs qs a.1 b)
-
--- the claim
-rows_hold : Holds table
-unfolding table
-rows_hold = both_hold (P1 ∷ P2 ∷ P3 ∷ P4 ∷ P5 ∷ P6 ∷ P7 ∷ P8 ∷ P9 ∷ P10 ∷ []) (P11 ∷ P12 ∷ []) steps_hold fits_hold

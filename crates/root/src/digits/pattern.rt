@@ -8,7 +8,7 @@ ghost use Rattle.root.specs.Nearest.{square};
 ghost use Rattle.root.specs.Code.{IsScaled};
 
 // The number a * 2^52 * 4^k.
-#[derive(Drop)]
+#[derive(Clone, Copy)]
 pub struct Scaled {
     pub a: u64,
     pub k: u64,

@@ -4,7 +4,7 @@ ghost use Rattle.std.specs.Prelude.{◌-◌, ◌*◌, ◌^◌, ◌≤◌};
 ghost use Rattle.root.specs.Code.{Rooted};
 
 // A root and what is left of the number under it.
-#[derive(Drop)]
+#[derive(Clone, Copy)]
 pub struct Root {
     pub q: u64,
     pub r: u64,

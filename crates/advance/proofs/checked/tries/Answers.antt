@@ -1,0 +1,26 @@
+-- `tries` is the tries from the first fraction on. The loop keeps that what is left decides. Assumes nothing.
+use mathlib.Core.Path.{refl, ◌∙◌}
+use native.Mathlib.Omega.{arith}
+use Rattle.advance.proofs.AdvanceLaws.{tries-short, tries-spent, tries-refused, tries-found, tries_missed, tries-over, circle-units}
+use Rattle.advance.proofs.checked.tries.Goals as goal
+
+pub loop-k-init : goal.loop-k-init
+loop-k-init c = (omega arith, refl)
+
+pub returns-then-step_of-tol : goal.returns-then-step_of-tol
+returns-then-step_of-tol c = (tries-short _ _ _ _ _ c.loop-k.k _ _ c.loop-k.invariant.1 c.loop-k-test.true (rw c.step_of.ensures at c.if-step_of-tol.true), c.loop-k.invariant.0)
+
+pub returns-then-limit-u : goal.returns-then-limit-u
+returns-then-limit-u c = (tries-spent _ _ _ _ _ c.loop-k.k _ _ c.loop-k.invariant.1 c.loop-k-test.true (rw c.step_of.ensures at c.if-step_of-tol.false) c.if-limit-u.true, c.loop-k.invariant.0)
+
+pub returns-in-Value : goal.returns-in-Value
+returns-in-Value c = (c.circle_of.ensures ∙ tries-found _ _ _ _ _ c.loop-k.k _ _ c.loop-k.invariant.1 c.loop-k-test.true (rw c.step_of.ensures at c.if-step_of-tol.false) (omega arith) _ c.tried_line.ensures _ c.in-Value.is, rw (c.circle_of.ensures, circle-units) (omega arith))
+
+pub returns-in-Refused : goal.returns-in-Refused
+returns-in-Refused c = (rw c.refused.ensures (tries-refused _ _ _ _ _ c.loop-k.k _ _ c.loop-k.invariant.1 c.loop-k-test.true (rw c.step_of.ensures at c.if-step_of-tol.false) (omega arith) _ c.tried_line.ensures _ c.in-Refused.is), rw c.refused.ensures (omega arith))
+
+pub loop-k-preserved : goal.loop-k-preserved
+loop-k-preserved c = (omega arith, tries_missed _ _ _ _ _ c.loop-k.k _ _ c.loop-k.invariant.1 c.loop-k-test.true (rw c.step_of.ensures at c.if-step_of-tol.false) (omega arith) _ c.tried_line.ensures c.in-Missed.is)
+
+pub returns : goal.returns
+returns c = (rw c.refused-2.ensures (tries-over _ _ _ _ _ c.loop-k.k _ _ c.loop-k.invariant.1 (omega arith)), rw c.refused-2.ensures (omega arith))

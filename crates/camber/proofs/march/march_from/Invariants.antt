@@ -1,0 +1,16 @@
+use Prim.Native.Nat.{◌-◌}
+use mathlib.Core.Path.{◌≡◌}
+use mathlib.Core.List.{[], ◌∷◌}
+use lib.ListN.{length}
+use Rattle.camber.proofs.MarchFrom.{Waits}
+use Rattle.camber.specs.March.{march_run}
+use Rattle.refine.specs.Report.{reported}
+use Rattle.refine.specs.Machine.{refining}
+use Rattle.runs.specs.Run.{under_limit}
+use Rattle.camber.proofs.march.march_from.Given as goal
+
+abbrev pub invariant-loop-ran : goal.invariant-loop-ran
+invariant-loop-ran l = (length l.store ≡ length l.initial.store) × Waits l.section l.tol l.slots l.limit l.initial.store (reported l.initial.store (march_run l.section l.tol l.slots (under_limit l.limit) (refining [] (l.initial.next ∷ [])) l.units)) l.store l.n l.next l.u
+
+abbrev pub decreases-loop-ran : goal.decreases-loop-ran
+decreases-loop-ran l = l.slots - l.n

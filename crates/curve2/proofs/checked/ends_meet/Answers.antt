@@ -1,0 +1,6 @@
+-- `ends_meet` measures from the first point to the last. Assumes nothing.
+use Rattle.curve2.proofs.Laws.{ends_at}
+use Rattle.curve2.proofs.checked.ends_meet.Goals as goal
+
+pub returns : goal.returns
+returns c = rw c.plain_dist.ensures (let at = c in ends_at _ at.args.points.now at.requires.points_len at.requires.in_bounds)

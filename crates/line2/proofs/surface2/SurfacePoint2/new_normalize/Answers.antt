@@ -1,0 +1,11 @@
+-- `SurfacePoint2::new_normalize` normalises the normal. Assumes nothing.
+use Rattle.line2.specs.Rays.{ray_normalized}
+use Rattle.line2.proofs.surface2.SurfacePoint2.new_normalize.Goals as goal
+
+pub returns-in-Value : goal.returns-in-Value
+unfolding ray_normalized
+returns-in-Value c = rw (← (rw c.in-Value.is at c.normalize.ensures))
+
+pub returns-in-Refused : goal.returns-in-Refused
+unfolding ray_normalized
+returns-in-Refused c = rw (← (rw c.in-Refused.is at c.normalize.ensures))

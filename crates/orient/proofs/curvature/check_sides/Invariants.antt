@@ -1,0 +1,13 @@
+-- `check_sides` counts the votes. The loop keeps that what is left, after the votes so far, is the whole. Assumes nothing.
+use mathlib.Core.Path.{◌≡◌}
+use Prim.Native.Nat.{◌≤◌, ◌-◌}
+use Rattle.inscribed.specs.Store.{circles_from, circles_of}
+use Rattle.orient.specs.Votes.{votes_from}
+use Rattle.orient.specs.Curvature.{side_vote}
+use Rattle.orient.proofs.curvature.check_sides.Given as goal
+
+abbrev pub invariant-loop-k : goal.invariant-loop-k
+invariant-loop-k l = (l.votes ≤ l.k) × (l.k ≤ l.count) × (votes_from (side_vote l.curve l.right) l.votes (circles_from l.store l.k (l.count - l.k)) ≡ votes_from (side_vote l.curve l.right) 0 (circles_of l.store l.count))
+
+abbrev pub decreases-loop-k : goal.decreases-loop-k
+decreases-loop-k l = l.count - l.k

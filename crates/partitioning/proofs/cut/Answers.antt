@@ -1,0 +1,6 @@
+-- `cut` cleans the points given, and tells how many they were. Assumes nothing.
+use Rattle.partitioning.proofs.PieceLaws.{cut_made}
+use Rattle.partitioning.proofs.cut.Goals as goal
+
+pub returns : goal.returns
+returns c = cut_made _ _ _ _ _ _ c.keep_points-c.ensures

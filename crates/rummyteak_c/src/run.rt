@@ -1,0 +1,106 @@
+// Runs within a limit of units.
+ghost use Rattle.std.specs.Prelude.{◌≡◌};
+ghost use Rattle.inscribed.specs.Store.{circle_at};
+ghost use Rattle.refine.specs.Refinement.{refine_of};
+ghost use Rattle.camber.specs.March.{march_of, march_told};
+ghost use Rattle.camber.specs.Extraction.{extraction_of};
+ghost use Rattle.rummyteak.specs.Told.{given_line, told_run, start_cells, start_left};
+
+use inscribed::store::WIDTH;
+
+// A circle offered to a store that holds `stated`, refined within a limit of units.
+#[unsafe(no_mangle)]
+pub extern "C" fn rummyteak_refine_and_push(
+    section: &[f64],
+    section_tol: f64,
+    tol: f64,
+    store: &mut [f64],
+    stated: usize,
+    circle: &[f64; WIDTH],
+    limit: u32,
+    count: &mut usize,
+    units: &mut u32,
+) -> u32
+    ensures { (record { number = result; count = count.new; units = units.new; store = store.new }) ≡ told_run count.old units.old (refine_of (record { section = section.entry.now; section_tol = section_tol; tol = tol; store = store.old; count = stated; circle = circle_at circle.now 0 }) limit) }
+{
+    rummyteak::run::rummyteak_refine_and_push(
+        section,
+        section_tol,
+        tol,
+        store,
+        stated,
+        circle,
+        limit,
+        count,
+        units,
+    )
+}
+
+// The circles on one side of a line, within a limit of units, and the edges of the line's crossing once that is found.
+#[unsafe(no_mangle)]
+pub extern "C" fn rummyteak_march(
+    section: &[f64],
+    section_tol: f64,
+    tol: f64,
+    ox: f64,
+    oy: f64,
+    dx: f64,
+    dy: f64,
+    store: &mut [f64],
+    limit: u32,
+    count: &mut usize,
+    units: &mut u32,
+    edges: &mut [usize; 2],
+    found: &mut bool,
+) -> u32
+    ensures store_after { (record { number = result; count = count.new; units = units.new; store = store.new }) ≡ told_run count.old units.old (march_of (record { section = section.entry.now; section_tol = section_tol; tol = tol; line = given_line ox oy dx dy; store = store.old }) limit) }
+    ensures found_after { start_cells edges.new found.new ≡ start_left (start_cells edges.old found.old) (march_told (record { section = section.entry.now; section_tol = section_tol; tol = tol; line = given_line ox oy dx dy; store = store.old }) limit) }
+{
+    rummyteak::run::rummyteak_march(
+        section,
+        section_tol,
+        tol,
+        ox,
+        oy,
+        dx,
+        dy,
+        store,
+        limit,
+        count,
+        units,
+        edges,
+        found,
+    )
+}
+
+// The circles on both sides of a line, within a limit of units.
+#[unsafe(no_mangle)]
+pub extern "C" fn rummyteak_extract_circles(
+    section: &[f64],
+    section_tol: f64,
+    tol: f64,
+    ox: f64,
+    oy: f64,
+    dx: f64,
+    dy: f64,
+    store: &mut [f64],
+    limit: u32,
+    count: &mut usize,
+    units: &mut u32,
+) -> u32
+    ensures { (record { number = result; count = count.new; units = units.new; store = store.new }) ≡ told_run count.old units.old (extraction_of (record { section = section.entry.now; section_tol = section_tol; tol = tol; line = given_line ox oy dx dy; store = store.old }) limit) }
+{
+    rummyteak::run::rummyteak_extract_circles(
+        section,
+        section_tol,
+        tol,
+        ox,
+        oy,
+        dx,
+        dy,
+        store,
+        limit,
+        count,
+        units,
+    )
+}

@@ -1,0 +1,92 @@
+// Orientation of the circles in a store.
+ghost use Rattle.std.specs.Prelude.{◌≡◌};
+ghost use Rattle.orient.specs.Orientation.{fwd_asked, fwd_store, upper_asked, upper_store};
+ghost use Rattle.rummyteak.specs.Told.{told};
+
+use orient::{OrientFwdAft, OrientUpperLower};
+
+// Brings the circles in use into leading-to-trailing order, by greatest radius.
+#[unsafe(no_mangle)]
+pub extern "C" fn rummyteak_orient_tmax_fwd(
+    store: &mut [f64],
+    count: usize,
+    turned: &mut bool,
+) -> u32
+    ensures turned_after { (record { number = result; left = turned.new }) ≡ told turned.old (fwd_asked OrientFwdAft.TmaxFwd store.old count) }
+    ensures store_after { store.new ≡ fwd_store OrientFwdAft.TmaxFwd store.old count }
+{
+    rummyteak::turning::rummyteak_orient_tmax_fwd(store, count, turned)
+}
+
+// The same by the direction of the airflow.
+#[unsafe(no_mangle)]
+pub extern "C" fn rummyteak_orient_airflow(
+    x: f64,
+    y: f64,
+    store: &mut [f64],
+    count: usize,
+    turned: &mut bool,
+) -> u32
+    ensures turned_after { (record { number = result; left = turned.new }) ≡ told turned.old (fwd_asked (OrientFwdAft.Airflow (record { x = x; y = y })) store.old count) }
+    ensures store_after { store.new ≡ fwd_store (OrientFwdAft.Airflow (record { x = x; y = y })) store.old count }
+{
+    rummyteak::turning::rummyteak_orient_airflow(x, y, store, count, turned)
+}
+
+// The same by a direction that points forward.
+#[unsafe(no_mangle)]
+pub extern "C" fn rummyteak_orient_fwd(
+    x: f64,
+    y: f64,
+    store: &mut [f64],
+    count: usize,
+    turned: &mut bool,
+) -> u32
+    ensures turned_after { (record { number = result; left = turned.new }) ≡ told turned.old (fwd_asked (OrientFwdAft.Fwd (record { x = x; y = y })) store.old count) }
+    ensures store_after { store.new ≡ fwd_store (OrientFwdAft.Fwd (record { x = x; y = y })) store.old count }
+{
+    rummyteak::turning::rummyteak_orient_fwd(x, y, store, count, turned)
+}
+
+// Brings the first contact of each circle in use to the lower side, by the side to which the camber bends.
+#[unsafe(no_mangle)]
+pub extern "C" fn rummyteak_orient_curvature(
+    store: &mut [f64],
+    count: usize,
+    swapped: &mut bool,
+) -> u32
+    ensures swapped_after { (record { number = result; left = swapped.new }) ≡ told swapped.old (upper_asked OrientUpperLower.Curvature store.old count) }
+    ensures store_after { store.new ≡ upper_store OrientUpperLower.Curvature store.old count }
+{
+    rummyteak::turning::rummyteak_orient_curvature(store, count, swapped)
+}
+
+// The same by a direction that points to the upper side.
+#[unsafe(no_mangle)]
+pub extern "C" fn rummyteak_orient_upper(
+    x: f64,
+    y: f64,
+    store: &mut [f64],
+    count: usize,
+    swapped: &mut bool,
+) -> u32
+    ensures swapped_after { (record { number = result; left = swapped.new }) ≡ told swapped.old (upper_asked (OrientUpperLower.Upper (record { x = x; y = y })) store.old count) }
+    ensures store_after { store.new ≡ upper_store (OrientUpperLower.Upper (record { x = x; y = y })) store.old count }
+{
+    rummyteak::turning::rummyteak_orient_upper(x, y, store, count, swapped)
+}
+
+// The same by a direction that points to the lower side.
+#[unsafe(no_mangle)]
+pub extern "C" fn rummyteak_orient_lower(
+    x: f64,
+    y: f64,
+    store: &mut [f64],
+    count: usize,
+    swapped: &mut bool,
+) -> u32
+    ensures swapped_after { (record { number = result; left = swapped.new }) ≡ told swapped.old (upper_asked (OrientUpperLower.Lower (record { x = x; y = y })) store.old count) }
+    ensures store_after { store.new ≡ upper_store (OrientUpperLower.Lower (record { x = x; y = y })) store.old count }
+{
+    rummyteak::turning::rummyteak_orient_lower(x, y, store, count, swapped)
+}

@@ -1,0 +1,2 @@
+-- The sums done by hand hold.
+pub mod Rows
