@@ -21,7 +21,7 @@ fn both_halves(
     limit: u32,
 ) -> Run
     requires { HasPoints section.now }
-    ensures { (section_tol : Float) → listed_run result store.new ≡ first_half (record { section = section.entry.now; section_tol = section_tol; tol = tol; line = line; store = store.old }) (under_limit limit) circle }
+    ensures { (section_tol : Float) → listed_run result store.new ≡ first_half (record { section = section.now; section_tol = section_tol; tol = tol; line = line; store = store.old }) (under_limit limit) circle }
 {
     let slots = inscribed::store::slots_in(store.len());
     let first = crate::march::march_from(section, tol, store, slots, circle, limit, 0);
@@ -46,7 +46,7 @@ pub fn extract_circles(
     store: &mut [f64],
     limit: u32,
 ) -> RunAnswer
-    ensures { listed_called result store.new ≡ extraction_of (record { section = section.entry.now; section_tol = section_tol; tol = tol; line = line; store = store.old }) limit }
+    ensures { listed_called result store.new ≡ extraction_of (record { section = section.now; section_tol = section_tol; tol = tol; line = line; store = store.old }) limit }
 {
     match crate::march::entered(section, section_tol, tol, line) {
         Entry::Passed => match halving::checked::inscribed_on(section, tol, line) {

@@ -108,7 +108,7 @@ pub(crate) fn march_from(
 // The march from a crossing on: its circle waits first.
 fn march_on(section: &[f64], tol: f64, crossing: Crossing, store: &mut [f64], limit: u32) -> Run
     requires { HasPoints section.now }
-    ensures { (section_tol : Float) (line : Line2) → listed_run result store.new ≡ after_start (record { section = section.entry.now; section_tol = section_tol; tol = tol; line = line; store = store.old }) (under_limit limit) (from_crossing section.entry.now tol crossing) }
+    ensures { (section_tol : Float) (line : Line2) → listed_run result store.new ≡ after_start (record { section = section.now; section_tol = section_tol; tol = tol; line = line; store = store.old }) (under_limit limit) (from_crossing section.now tol crossing) }
 {
     match halving::checked::from_crossing(section, tol, crossing) {
         InscribedAnswer::Value(c) => {
@@ -128,7 +128,7 @@ pub fn march(
     store: &mut [f64],
     limit: u32,
 ) -> MarchAnswer
-    ensures { listed_march result store.new ≡ march_told (record { section = section.entry.now; section_tol = section_tol; tol = tol; line = line; store = store.old }) limit }
+    ensures { listed_march result store.new ≡ march_told (record { section = section.now; section_tol = section_tol; tol = tol; line = line; store = store.old }) limit }
 {
     match entered(section, section_tol, tol, line) {
         Entry::Passed => {

@@ -57,7 +57,7 @@ fn entered(
     at_front: bool,
     finer: bool,
 ) -> Entry
-    ensures { listed_entry result ≡ edge_entry (record { section = section.entry.now; section_tol = section_tol; tol = tol; store = store.now; count = count; at_front = at_front }) finer }
+    ensures { listed_entry result ≡ edge_entry (record { section = section.now; section_tol = section_tol; tol = tol; store = store.now; count = count; at_front = at_front }) finer }
 {
     let number = inscribed::store::has_bad_circle(store, count);
     let tolerance = entering::is_bad_general(tol);
@@ -81,7 +81,7 @@ pub fn fit_open_edge(
     at_front: bool,
     limit: u32,
 ) -> FitAnswer
-    ensures { listed_fit_call result store.new ≡ fit_of (record { section = section.entry.now; section_tol = section_tol; tol = tol; store = store.old; count = count; at_front = at_front }) limit }
+    ensures { listed_fit_call result store.new ≡ fit_of (record { section = section.now; section_tol = section_tol; tol = tol; store = store.old; count = count; at_front = at_front }) limit }
 {
     let finer = entering::is_finer_general(section_tol, tol);
     match entered(section, section_tol, tol, store, count, at_front, finer) {
@@ -112,7 +112,7 @@ pub fn is_open_at_end(
     count: usize,
     at_front: bool,
 ) -> BoolAnswer
-    ensures { listed_bool result ≡ open_at_end (record { section = section.entry.now; section_tol = section_tol; tol = tol; store = store.now; count = count; at_front = at_front }) }
+    ensures { listed_bool result ≡ open_at_end (record { section = section.now; section_tol = section_tol; tol = tol; store = store.now; count = count; at_front = at_front }) }
 {
     match entered(section, section_tol, tol, store, count, at_front, false) {
         Entry::Passed => {

@@ -1,6 +1,6 @@
 // The nearest point of a section to a point, in one pass over its edges.
 ghost use Rattle.std.specs.Prelude.{◌≡◌, ◌+◌, ◌<◌, length};
-ghost use Rattle.errors.specs.Answer.{result};
+ghost use Rattle.errors.specs.Answer.{result as answered};
 ghost use Rattle.points.specs.Closest.{closest_on_edge, listed_edge_point};
 ghost use Rattle.curve2.specs.Section.{point_at};
 ghost use Rattle.curve2.specs.Entry.{HasPoints};
@@ -33,7 +33,7 @@ pub(crate) fn closest_at(section: &[f64], i: usize, p: Point2) -> EdgePointAnswe
 // point out again at the end.
 pub(crate) fn closest_after(section: &[f64], p: Point2, first: EdgePoint) -> NearestAnswer
     requires has_points { HasPoints section.now }
-    requires section_value { closest_on_edge p (point_at section.now 0) (point_at section.now 2) ≡ result first }
+    requires section_value { closest_on_edge p (point_at section.now 0) (point_at section.now 2) ≡ answered first }
     ensures { listed_nearest result ≡ nearest_of section.now p }
 {
     let mut least = first.square;

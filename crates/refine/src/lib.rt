@@ -111,7 +111,7 @@ fn entered(
     count: usize,
     circle: Inscribed,
 ) -> Entry
-    ensures { listed_entry result ≡ refine_entry (record { section = section.entry.now; section_tol = section_tol; tol = tol; store = store.now; count = count; circle = circle }) }
+    ensures { listed_entry result ≡ refine_entry (record { section = section.now; section_tol = section_tol; tol = tol; store = store.now; count = count; circle = circle }) }
 {
     let number = has_bad_number(store, count, circle);
     let tolerance = entering::is_bad_general(tol);
@@ -136,7 +136,7 @@ pub fn refine_and_push(
     circle: Inscribed,
     limit: u32,
 ) -> RunAnswer
-    ensures { listed_called result store.new ≡ refine_of (record { section = section.entry.now; section_tol = section_tol; tol = tol; store = store.old; count = count; circle = circle }) limit }
+    ensures { listed_called result store.new ≡ refine_of (record { section = section.now; section_tol = section_tol; tol = tol; store = store.old; count = count; circle = circle }) limit }
 {
     match entered(section, section_tol, tol, store, count, circle) {
         Entry::Passed => {

@@ -15,7 +15,7 @@ pub fn rummyteak_is_open_at_end(
     at_front: bool,
     is_open: &mut bool,
 ) -> u32
-    ensures { (record { number = result; left = is_open.new }) ≡ told is_open.old (open_at_end (record { section = section.entry.now; section_tol = section_tol; tol = tol; store = store.now; count = count; at_front = at_front })) }
+    ensures { (record { number = result; left = is_open.new }) ≡ told is_open.old (open_at_end (record { section = section.now; section_tol = section_tol; tol = tol; store = store.now; count = count; at_front = at_front })) }
 {
     telling::tell_bool(
         edges::is_open_at_end(section, section_tol, tol, store, count, at_front),
@@ -36,8 +36,8 @@ pub fn rummyteak_fit_open_edge(
     count: &mut usize,
     units: &mut u32,
 ) -> u32
-    ensures store_after { (record { number = result; count = count.new; units = units.new; store = store.new }) ≡ told_run count.old units.old (fit_of (record { section = section.entry.now; section_tol = section_tol; tol = tol; store = store.old; count = stated; at_front = at_front }) limit) }
-    ensures point_after { point.new ≡ point_left point.old (fit_of (record { section = section.entry.now; section_tol = section_tol; tol = tol; store = store.old; count = stated; at_front = at_front }) limit) }
+    ensures store_after { (record { number = result; count = count.new; units = units.new; store = store.new }) ≡ told_run count.old units.old (fit_of (record { section = section.now; section_tol = section_tol; tol = tol; store = store.old; count = stated; at_front = at_front }) limit) }
+    ensures point_after { point.new ≡ point_left point.old (fit_of (record { section = section.now; section_tol = section_tol; tol = tol; store = store.old; count = stated; at_front = at_front }) limit) }
 {
     telling::tell_fit(
         edges::fit_open_edge(section, section_tol, tol, store, stated, at_front, limit),

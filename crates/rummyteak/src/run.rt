@@ -23,7 +23,7 @@ pub fn rummyteak_refine_and_push(
     count: &mut usize,
     units: &mut u32,
 ) -> u32
-    ensures { (record { number = result; count = count.new; units = units.new; store = store.new }) ≡ told_run count.old units.old (refine_of (record { section = section.entry.now; section_tol = section_tol; tol = tol; store = store.old; count = stated; circle = circle_at circle.now 0 }) limit) }
+    ensures { (record { number = result; count = count.new; units = units.new; store = store.new }) ≡ told_run count.old units.old (refine_of (record { section = section.now; section_tol = section_tol; tol = tol; store = store.old; count = stated; circle = circle_at circle.now 0 }) limit) }
 {
     let offered = given::circle_of(circle);
     telling::tell_run(
@@ -49,8 +49,8 @@ pub fn rummyteak_march(
     edges: &mut [usize; 2],
     found: &mut bool,
 ) -> u32
-    ensures store_after { (record { number = result; count = count.new; units = units.new; store = store.new }) ≡ told_run count.old units.old (march_of (record { section = section.entry.now; section_tol = section_tol; tol = tol; line = given_line ox oy dx dy; store = store.old }) limit) }
-    ensures found_after { start_cells edges.new found.new ≡ start_left (start_cells edges.old found.old) (march_told (record { section = section.entry.now; section_tol = section_tol; tol = tol; line = given_line ox oy dx dy; store = store.old }) limit) }
+    ensures store_after { (record { number = result; count = count.new; units = units.new; store = store.new }) ≡ told_run count.old units.old (march_of (record { section = section.now; section_tol = section_tol; tol = tol; line = given_line ox oy dx dy; store = store.old }) limit) }
+    ensures found_after { start_cells edges.new found.new ≡ start_left (start_cells edges.old found.old) (march_told (record { section = section.now; section_tol = section_tol; tol = tol; line = given_line ox oy dx dy; store = store.old }) limit) }
 {
     let origin = Point2 { x: ox, y: oy };
     let direction = Vector2 { x: dx, y: dy };
@@ -74,7 +74,7 @@ pub fn rummyteak_extract_circles(
     count: &mut usize,
     units: &mut u32,
 ) -> u32
-    ensures { (record { number = result; count = count.new; units = units.new; store = store.new }) ≡ told_run count.old units.old (extraction_of (record { section = section.entry.now; section_tol = section_tol; tol = tol; line = given_line ox oy dx dy; store = store.old }) limit) }
+    ensures { (record { number = result; count = count.new; units = units.new; store = store.new }) ≡ told_run count.old units.old (extraction_of (record { section = section.now; section_tol = section_tol; tol = tol; line = given_line ox oy dx dy; store = store.old }) limit) }
 {
     let origin = Point2 { x: ox, y: oy };
     let direction = Vector2 { x: dx, y: dy };

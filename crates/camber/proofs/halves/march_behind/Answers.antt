@@ -1,3 +1,4 @@
+-- `march_behind` marches into the part behind k circles. Assumes nothing.
 use native.Mathlib.Omega.{arith}
 use Rattle.camber.proofs.PartLaws.{behind-run, marched_count}
 use Rattle.camber.proofs.halves.march_behind.Goals as goal

@@ -1,3 +1,4 @@
+-- `second_half` turns the circles, drops the last, and marches behind them. Assumes nothing.
 use native.Mathlib.Omega.{arith}
 use Rattle.camber.specs.Extraction.{second_half, second_march}
 use Rattle.inscribed.proofs.StoreLaws.{length-circles}

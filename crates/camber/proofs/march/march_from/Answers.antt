@@ -1,3 +1,4 @@
+-- `march_from` is the march from its first circle on. Assumes nothing.
 use mathlib.Core.Path.{refl, ap}
 use native.Mathlib.Omega.{arith}
 use Rattle.camber.proofs.MarchFrom.{waits_start, waits_ends, waits_grown, waits_ready, ready_ends, ready_next, spent-unfinished, refused-unfinished, finished-listed}

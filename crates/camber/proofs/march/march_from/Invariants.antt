@@ -1,3 +1,4 @@
+-- `march_from` keeps that the march from the circles accepted so far and the one that waits gives the whole. Assumes nothing.
 use Prim.Native.Nat.{◌-◌}
 use mathlib.Core.Path.{◌≡◌}
 use mathlib.Core.List.{[], ◌∷◌}

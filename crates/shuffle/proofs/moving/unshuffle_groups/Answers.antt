@@ -5,8 +5,7 @@ use Rattle.shuffle.proofs.WordLaws.{group_unshuffled}
 use Rattle.shuffle.proofs.moving.unshuffle_groups.Goals as goal
 
 pub loop-g-preserved : goal.loop-g-preserved
-loop-g-preserved c = let start = c in
-    let loop = c.loop-g in
+loop-g-preserved c = let loop = c.loop-g in
     let read = c.words_at-words.ensures in
     let turn = c.transpose_words.ensures in (
       omega arith,
