@@ -7,12 +7,11 @@ use native.Mathlib.Numerals.{add-one}
 use native.Mathlib.Omega.{arith}
 use borrow.Author.Tests.{le-leb, lt-leb}
 use lib.Ieee.{Float, lt}
-use Rattle.errors.specs.Answer.{Answer, result, refusal}
+use Rattle.std.specs.Prelude.{Option, Some, None, Ok, Err}
+use Rattle.errors.specs.Answer.{Answer}
 use Rattle.errors.specs.declared.Refusal.{Refusal}
 use Rattle.line2.specs.declared.surface2.SurfacePoint2.{SurfacePoint2}
-use Rattle.queries.specs.Crossing.{listed_crossing}
 use Rattle.queries.specs.declared.Crossing.{Crossing}
-use Rattle.queries.specs.declared.CrossingAnswer.{CrossingAnswer}
 use Rattle.runs.specs.Run.{ended, spent, under_limit}
 use Rattle.inscribed.specs.declared.Inscribed.{Inscribed}
 use Rattle.halving.specs.Halving.{from_crossing}
@@ -36,25 +35,25 @@ module _ (ns : List Float) (tol : Float) (c : Inscribed) (ray : SurfacePoint2) (
       unfolding tries_from
       tries-spent h = rw (one_more, long, le-leb limit u h) at inv
 
-      module _ (free : u < limit) (r : CrossingAnswer) (is : listed_crossing r ≡ tried_line ns c ray k) where
-        pub tries-refused : (x : Refusal) → r ≡ CrossingAnswer.Refused x → ending (ended (refusal x)) (u + 1) ≡ whole
+      module _ (free : u < limit) (r : Answer (Option Crossing)) (is : r ≡ tried_line ns c ray k) where
+        pub tries-refused : (x : Refusal) → r ≡ Err x → ending (ended (Err x)) (u + 1) ≡ whole
         unfolding tries_from
         tries-refused x e = rw (add-one u) (rw (one_more, long, lt-leb limit u free, ← (rw e at is)) at inv)
 
-        pub tries-found : (x : Crossing) → r ≡ CrossingAnswer.Value x → circle_outcome (u + 1) (from_crossing ns tol x) ≡ whole
+        pub tries-found : (x : Crossing) → r ≡ Ok (Some x) → circle_outcome (u + 1) (from_crossing ns tol x) ≡ whole
         unfolding tries_from
         tries-found x e = rw (add-one u) (rw (one_more, long, lt-leb limit u free, ← (rw e at is)) at inv)
 
-        pub tries_missed : r ≡ CrossingAnswer.Missed → tries_from ns tol c ray (under_limit limit) (4 - (k + 1)) (k + 1) (u + 1) ≡ whole
+        pub tries_missed : r ≡ (Ok None) → tries_from ns tol c ray (under_limit limit) (4 - (k + 1)) (k + 1) (u + 1) ≡ whole
         unfolding tries_from
         tries_missed e = rw (add-one u, add-one k) (rw (one_more, long, lt-leb limit u free, ← (rw e at is), add-one k) at inv)
 
-  pub tries-over : 4 ≤ k → ending (ended (refusal NoAdvance)) u ≡ whole
+  pub tries-over : 4 ≤ k → ending (ended (Err NoAdvance)) u ≡ whole
   unfolding tries_from
-  tries-over h = let none : 4 - k ≡ 0 = omega arith in rw none at inv
+  tries-over h = let None : 4 - k ≡ 0 = omega arith in rw None at inv
 
 -- a circle's units are those handed on
 pub circle-units : (u : ℕ) (a : Answer Inscribed) → outcome_units (circle_outcome u a) ≡ u
 unfolding circle_outcome
-circle-units u (result d) = refl
-circle-units u (refusal n) = refl
+circle-units u (Ok d) = refl
+circle-units u (Err n) = refl

@@ -1,9 +1,8 @@
 -- `advance_search`: what is ahead of a circle, `remaining`, and the crossing that one of the four fractions finds. Assumes nothing.
-use Rattle.std.specs.Prelude.{cond, true, List, [], ◌∷◌, ℕ, zero, suc, Float}
-use Rattle.std.proofs.Math.Option.{Option, some, none}
+use Rattle.std.specs.Prelude.{cond, true, List, [], ◌∷◌, ℕ, zero, suc, Float, Option, Some, None, Ok}
 use Rattle.std.specs.Float.{inf, binary64}
 use Rattle.std.specs.Float.Ieee.{lt, of_bits}
-use Rattle.errors.specs.Answer.{Answer, result, ◌>>=◌}
+use Rattle.errors.specs.Answer.{Answer, ◌>>=◌}
 use Rattle.errors.specs.Numbers.{is_plus}
 use Rattle.points.specs.Numbers.{◌*f◌, f½, ◌-f◌}
 use Rattle.points.specs.Points.{dist_of, rotated, norm_of}
@@ -24,11 +23,11 @@ use Rattle.queries.specs.declared.Crossing.{Crossing}
 unfoldable pub farther : SurfacePoint2 → Float → Point2 → Answer Float
 farther ray most p =
     ray_projection ray p >>= λ ahead.
-    let far = dist_of ray.point p >>= λ d. result (cond (lt most d) d most) in
-    cond (is_plus ahead) far (result most)
+    let far = dist_of ray.point p >>= λ d. Ok (cond (lt most d) d most) in
+    cond (is_plus ahead) far (Ok most)
 
 unfoldable pub farthest : SurfacePoint2 → Float → List Point2 → Answer Float
-farthest ray most [] = result most
+farthest ray most [] = Ok most
 farthest ray most (p ∷ ps) = farther ray most p >>= λ next. farthest ray next ps
 
 -- "the infinite start values of `remaining` .. aren't watched"
@@ -51,7 +50,7 @@ unfoldable pub look_ahead : List Float → Inscribed → Answer MarchAhead
 look_ahead ns c =
     camber_point c >>= λ ray.
     remaining ns ray >>= λ d.
-    result (cond (lt (d -f c.r) (c.r *f stop_fraction)) done (advance_ray ray))
+    Ok (cond (lt (d -f c.r) (c.r *f stop_fraction)) done (advance_ray ray))
 
 -- ---- the steps
 
@@ -70,8 +69,8 @@ step_of c k = fraction k *f c.r
 
 -- a crossing that spans less than half of c's contacts is no line to go on with
 unfoldable pub wide_enough : Inscribed → Option Crossing → Answer (Option Crossing)
-wide_enough c none = result none
-wide_enough c (some x) = dist_of (contact0 c) (contact1 c) >>= λ was. norm_of x.line.direction >>= λ now. result (cond (lt now (f½ *f was)) none (some x))
+wide_enough c None = Ok None
+wide_enough c (Some x) = dist_of (contact0 c) (contact1 c) >>= λ was. norm_of x.line.direction >>= λ now. Ok (cond (lt now (f½ *f was)) None (Some x))
 
 unfoldable pub tried_line : List Float → Inscribed → SurfacePoint2 → ℕ → Answer (Option Crossing)
 tried_line ns c ray k = at_distance ray (step_of c k) >>= λ o. crossing_of ns (line_of o (rotated Ccw ray.normal)) >>= wide_enough c

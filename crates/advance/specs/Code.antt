@@ -1,8 +1,7 @@
 -- What the code of one advance returns. It is the code's own: `march_step` doesn't rest on it. Assumes nothing.
-use Rattle.std.specs.Prelude.{Bool, cond, List, ℕ, zero, suc, Float}
-use Rattle.std.proofs.Math.Option.{Option, some, none}
+use Rattle.std.specs.Prelude.{Bool, cond, List, ℕ, zero, suc, Float, Option, Some, None, Ok, Err}
 use Rattle.std.specs.Float.Ieee.{lt}
-use Rattle.errors.specs.Answer.{Answer, result, refusal}
+use Rattle.errors.specs.Answer.{Answer}
 use Rattle.line2.specs.declared.surface2.SurfacePoint2.{SurfacePoint2}
 use Rattle.queries.specs.declared.Crossing.{Crossing}
 use Rattle.runs.specs.Run.{Ending, ended, spent}
@@ -12,14 +11,13 @@ use Rattle.refine.specs.Machine.{End, finished}
 use Rattle.refine.specs.Report.{listed_end}
 use Rattle.advance.specs.Advance.{MarchAhead, done, advance_ray, look_ahead, step_of, tried_line}
 use Rattle.advance.specs.declared.Advanced.{Advanced}
-use Rattle.advance.specs.declared.remaining.AheadAnswer.{AheadAnswer}
 use Rattle.errors.specs.declared.Refusal.TheVariants.{NoAdvance}
 
 -- the look ahead
-abbrev pub listed_ahead : AheadAnswer → Answer MarchAhead
-listed_ahead AheadAnswer.Done = result done
-listed_ahead (AheadAnswer.Ray ray) = result (advance_ray ray)
-listed_ahead (AheadAnswer.Refused r) = refusal r
+abbrev pub listed_ahead : Answer (Option SurfacePoint2) → Answer MarchAhead
+listed_ahead (Ok None) = Ok done
+listed_ahead (Ok (Some ray)) = Ok (advance_ray ray)
+listed_ahead (Err r) = Err r
 
 -- an ending of the march, or the next circle; each with the units taken so far
 pub data Outcome : Type 0 where
@@ -27,20 +25,20 @@ pub data Outcome : Type 0 where
   going : Inscribed → ℕ → Outcome
 
 unfoldable pub circle_outcome : ℕ → Answer Inscribed → Outcome
-circle_outcome u (refusal r) = ending (ended (refusal r)) u
-circle_outcome u (result d) = going d u
+circle_outcome u (Err r) = ending (ended (Err r)) u
+circle_outcome u (Ok d) = going d u
 
 -- after a crossing was tried: its circle, or the next fraction
 unfoldable pub line_outcome : List Float → Float → Outcome → ℕ → Answer (Option Crossing) → Outcome
 unfolding circle_outcome
-line_outcome ns tol next u (refusal r) = ending (ended (refusal r)) u
-line_outcome ns tol next u (result none) = next
-line_outcome ns tol next u (result (some x)) = circle_outcome u (from_crossing ns tol x)
+line_outcome ns tol next u (Err r) = ending (ended (Err r)) u
+line_outcome ns tol next u (Ok None) = next
+line_outcome ns tol next u (Ok (Some x)) = circle_outcome u (from_crossing ns tol x)
 
 -- the fractions from number k on, `left` of them; each asks for a unit after the step test
 unfoldable pub tries_from : List Float → Float → Inscribed → SurfacePoint2 → (ℕ → Bool) → ℕ → ℕ → ℕ → Outcome
 unfolding line_outcome
-tries_from ns tol c ray full zero k u = ending (ended (refusal NoAdvance)) u
+tries_from ns tol c ray full zero k u = ending (ended (Err NoAdvance)) u
 tries_from ns tol c ray full (suc left) k u =
     let next = tries_from ns tol c ray full left (suc k) (suc u) in
     let tried = line_outcome ns tol next (suc u) (tried_line ns c ray k) in
@@ -48,9 +46,9 @@ tries_from ns tol c ray full (suc left) k u =
 
 unfoldable pub ahead_outcome : List Float → Float → Inscribed → (ℕ → Bool) → ℕ → Answer MarchAhead → Outcome
 unfolding tries_from
-ahead_outcome ns tol c full u (refusal r) = ending (ended (refusal r)) u
-ahead_outcome ns tol c full u (result done) = ending (ended finished) u
-ahead_outcome ns tol c full u (result (advance_ray ray)) = tries_from ns tol c ray full 4 0 u
+ahead_outcome ns tol c full u (Err r) = ending (ended (Err r)) u
+ahead_outcome ns tol c full u (Ok done) = ending (ended finished) u
+ahead_outcome ns tol c full u (Ok (advance_ray ray)) = tries_from ns tol c ray full 4 0 u
 
 abbrev pub advance_outcome : List Float → Float → Inscribed → (ℕ → Bool) → ℕ → Outcome
 advance_outcome ns tol c full u = ahead_outcome ns tol c full u (look_ahead ns c)

@@ -1,98 +1,50 @@
 // What lies ahead of a circle of a march: the end, or the camber ray to advance along.
-ghost use Rattle.std.specs.Prelude.{◌≡◌, ◌+◌, ◌<◌, length};
-ghost use Rattle.errors.specs.Answer.{listed_scalar};
-ghost use Rattle.curve2.specs.Section.{point_at};
-ghost use Rattle.curve2.specs.Entry.{HasPoints};
+ghost use Rattle.std.specs.Prelude.{◌≡◌};
 ghost use Rattle.advance.specs.Advance.{farther, remaining, look_ahead};
 ghost use Rattle.advance.specs.Code.{listed_ahead};
 
-use errors::{Refusal, ScalarAnswer};
+use curve2::checked::{Curve2, point_at};
+use errors::Refusal;
 use inscribed::Inscribed;
-use line2::surface2::{SurfacePoint2, SurfacePointAnswer};
+use line2::surface2::SurfacePoint2;
 use points::Point2;
 
-// What lies ahead of a circle: the end, the camber ray to advance along, or a refusal.
-#[derive(Clone, Copy)]
-pub enum AheadAnswer {
-    Done,
-    Ray(SurfacePoint2),
-    Refused(Refusal),
-}
-
 // The farther of the farthest distance so far and p's, where p lies ahead.
-fn farther(ray: SurfacePoint2, most: f64, p: Point2) -> ScalarAnswer
-    ensures { listed_scalar result ≡ farther ray most p }
+#[tactic(auto, unfolding(crate::specs::Advance::farther))]
+fn farther(ray: SurfacePoint2, most: f64, p: Point2) -> Result<f64, Refusal>
+    ensures { result ≡ farther ray most p }
 {
-    let o = ray.point;
-    match ray.scalar_projection(p) {
-        ScalarAnswer::Value(ahead) => {
-            if !errors::is_plus(ahead) {
-                return ScalarAnswer::Value(most);
-            }
-            match points::dist(o, p) {
-                ScalarAnswer::Value(d) => {
-                    if most < d {
-                        return ScalarAnswer::Value(d);
-                    }
-                    ScalarAnswer::Value(most)
-                }
-                ScalarAnswer::Refused(r) => ScalarAnswer::Refused(r),
-            }
-        }
-        ScalarAnswer::Refused(r) => ScalarAnswer::Refused(r),
+    if !errors::is_plus(ray.scalar_projection(p)?) {
+        return Ok(most);
     }
-}
-
-// The same of the point whose numbers start at i.
-fn farther_at(section: &[f64], i: usize, ray: SurfacePoint2, most: f64) -> ScalarAnswer
-    requires { i + 1 < length section.now }
-    ensures { listed_scalar result ≡ farther ray most (point_at section.now i) }
-{
-    let i1 = i + 1;
-    let p = Point2 {
-        x: section[i],
-        y: section[i1],
-    };
-    farther(ray, most, p)
+    let d = points::dist(ray.point, p)?;
+    if most < d { Ok(d) } else { Ok(most) }
 }
 
 // The distance from the ray's point to the farthest point ahead of it.
-fn remaining(section: &[f64], ray: SurfacePoint2) -> ScalarAnswer
-    requires { HasPoints section.now }
-    ensures { listed_scalar result ≡ remaining section.now ray }
+fn remaining(section: &Curve2<'_>, ray: SurfacePoint2) -> Result<f64, Refusal>
+    ensures { result ≡ remaining section.now.points.now ray }
 {
-    let mut most: f64 = -1.0 / 0.0;
-    let mut i: usize = 0;
-    while i < section.len() {
-        match farther_at(section, i, ray, most) {
-            ScalarAnswer::Value(next) => {
-                most = next;
-            }
-            ScalarAnswer::Refused(r) => {
-                return ScalarAnswer::Refused(r);
-            }
-        }
-        i += 2;
+    let mut most = f64::NEG_INFINITY;
+    for k in 0..section.points.len() / 2 {
+        most = farther(ray, most, point_at(section.points, 2 * k))?;
     }
-    ScalarAnswer::Value(most)
+    Ok(most)
 }
 
 // Whether the march ends at c: less than 0.375 of its radius is left beyond it.
-pub(crate) fn look_ahead(section: &[f64], c: Inscribed) -> AheadAnswer
-    requires { HasPoints section.now }
-    ensures { listed_ahead result ≡ look_ahead section.now c }
+#[tactic(auto, unfolding(crate::specs::Advance::look_ahead))]
+pub(crate) fn look_ahead(
+    section: &Curve2<'_>,
+    c: Inscribed,
+) -> Result<Option<SurfacePoint2>, Refusal>
+    ensures { listed_ahead result ≡ look_ahead section.now.points.now c }
 {
-    let radius = c.r;
-    match c.camber_point() {
-        SurfacePointAnswer::Value(ray) => match remaining(section, ray) {
-            ScalarAnswer::Value(d) => {
-                if d - radius < radius * 0.375 {
-                    return AheadAnswer::Done;
-                }
-                AheadAnswer::Ray(ray)
-            }
-            ScalarAnswer::Refused(r) => AheadAnswer::Refused(r),
-        },
-        SurfacePointAnswer::Refused(r) => AheadAnswer::Refused(r),
+    let ray = c.camber_point()?;
+    let d = remaining(section, ray)?;
+    if d - c.r < c.r * 0.375 {
+        Ok(None)
+    } else {
+        Ok(Some(ray))
     }
 }

@@ -1,16 +1,14 @@
 // The steps ahead from a circle: four fractions of its radius, and the crossing that one of them finds.
-ghost use Rattle.std.specs.Prelude.{◌≡◌};
-ghost use Rattle.std.proofs.Math.Option.{some};
-ghost use Rattle.curve2.specs.Entry.{HasPoints};
-ghost use Rattle.queries.specs.Crossing.{listed_crossing};
+ghost use Rattle.std.specs.Prelude.{◌≡◌, Some};
 ghost use Rattle.advance.specs.Advance.{fraction, step_of, wide_enough, tried_line};
 
-use errors::ScalarAnswer;
+use curve2::checked::Curve2;
+use errors::Refusal;
 use inscribed::Inscribed;
 use line2::Line2;
 use line2::surface2::SurfacePoint2;
-use points::{AngleDir, Point2, PointAnswer};
-use queries::{Crossing, CrossingAnswer};
+use points::AngleDir;
+use queries::Crossing;
 
 // Fraction number k of a radius.
 fn fraction_of(k: usize) -> f64
@@ -28,61 +26,39 @@ fn fraction_of(k: usize) -> f64
 pub(crate) fn step_of(c: Inscribed, k: usize) -> f64
     ensures { result ≡ step_of c k }
 {
-    let radius = c.r;
-    fraction_of(k) * radius
+    fraction_of(k) * c.r
 }
 
 // The crossing, where it spans at least half of c's contacts.
-fn wide_enough(c: Inscribed, x: Crossing) -> CrossingAnswer
-    ensures { listed_crossing result ≡ wide_enough c (some x) }
+#[tactic(auto, unfolding(crate::specs::Advance::wide_enough))]
+fn wide_enough(c: Inscribed, x: Crossing) -> Result<Option<Crossing>, Refusal>
+    ensures { result ≡ wide_enough c (Some x) }
 {
-    let ax = c.p0x;
-    let ay = c.p0y;
-    let bx = c.p1x;
-    let by = c.p1y;
-    let a = Point2 { x: ax, y: ay };
-    let b = Point2 { x: bx, y: by };
-    let line = x.line;
-    let direction = line.direction;
-    match points::dist(a, b) {
-        ScalarAnswer::Value(was) => match direction.norm() {
-            ScalarAnswer::Value(now) => {
-                if now < 0.5 * was {
-                    return CrossingAnswer::Missed;
-                }
-                CrossingAnswer::Value(x)
-            }
-            ScalarAnswer::Refused(r) => CrossingAnswer::Refused(r),
-        },
-        ScalarAnswer::Refused(r) => CrossingAnswer::Refused(r),
+    let was = points::dist(c.contact0(), c.contact1())?;
+    let now = x.line.direction.norm()?;
+    if now < 0.5 * was {
+        Ok(None)
+    } else {
+        Ok(Some(x))
     }
 }
 
 // The crossing of the line across the ray, one step ahead.
+#[tactic(auto, unfolding(crate::specs::Advance::tried_line, crate::specs::Advance::wide_enough))]
 pub(crate) fn tried_line(
-    section: &[f64],
+    section: &Curve2<'_>,
     c: Inscribed,
     ray: SurfacePoint2,
     k: usize,
-) -> CrossingAnswer
-    requires { HasPoints section.now }
-    ensures { listed_crossing result ≡ tried_line section.now c ray k }
+) -> Result<Option<Crossing>, Refusal>
+    ensures { result ≡ tried_line section.now.points.now c ray k }
 {
-    let normal = ray.normal;
-    let step = step_of(c, k);
-    match ray.at_distance(step) {
-        PointAnswer::Value(o) => {
-            let direction = normal.rot90(AngleDir::Ccw);
-            let line = Line2 {
-                origin: o,
-                direction,
-            };
-            match queries::checked::crossing_line(section, line) {
-                CrossingAnswer::Value(x) => wide_enough(c, x),
-                CrossingAnswer::Missed => CrossingAnswer::Missed,
-                CrossingAnswer::Refused(r) => CrossingAnswer::Refused(r),
-            }
-        }
-        PointAnswer::Refused(r) => CrossingAnswer::Refused(r),
+    let line = Line2 {
+        origin: ray.at_distance(step_of(c, k))?,
+        direction: ray.normal.rot90(AngleDir::Ccw),
+    };
+    match queries::checked::crossing_line(section, line)? {
+        Some(x) => wide_enough(c, x),
+        None => Ok(None),
     }
 }

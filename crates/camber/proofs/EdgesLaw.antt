@@ -1,10 +1,10 @@
 -- 02 (a): the edges that a march tells. No limit has a part in them; they are edges of the section, and two different ones. Assumes nothing.
 use mathlib.Core.Path.{◌≡◌, refl}
-use mathlib.Core.Option.{some}
+use Rattle.std.specs.Prelude.{Some, Ok, Err}
 use Prim.Native.Nat.{ℕ, ◌<◌}
 use native.Mathlib.Omega.{arith}
 use lib.ListN.{length}
-use Rattle.errors.specs.Answer.{Answer, result, refusal, ◌>>=◌}
+use Rattle.errors.specs.Answer.{Answer, ◌>>=◌}
 use Rattle.queries.specs.Hits.{section_edges}
 use Rattle.queries.specs.Crossing.{crossing_on}
 use Rattle.queries.specs.declared.Crossing.{Crossing}
@@ -19,20 +19,20 @@ edges_at_every_limit m limit more = refl
 abbrev pub EdgesOf : Marched → HitEdges → Type 0
 EdgesOf m e = (e.first < length (section_edges m.section)) × (e.second < length (section_edges m.section)) × (e.first ≡ e.second → ⊥)
 
-pub march_edges_lem : (m : Marched) (e : HitEdges) → march_edges m ≡ some e → EdgesOf m e
+pub march_edges_lem : (m : Marched) (e : HitEdges) → march_edges m ≡ Some e → EdgesOf m e
 unfolding found_edges
 march_edges_lem m e told = go (march_entry m) told
   where
-    met : (a : Answer Crossing) → ((x : Crossing) → a ≡ result x → EdgesOf m x.edges) → found_edges a ≡ some e → EdgesOf m e
-    met (refusal r) f p = let z : ◌≡◌ {A = ℕ} 0 1 = cc in absurd (omega arith)
-    met (result x) f p = let w : e ≡ x.edges = cc in rw w (f x refl)
+    met : (a : Answer Crossing) → ((x : Crossing) → a ≡ Ok x → EdgesOf m x.edges) → found_edges a ≡ Some e → EdgesOf m e
+    met (Err r) f p = let z : ◌≡◌ {A = ℕ} 0 1 = cc in absurd (omega arith)
+    met (Ok x) f p = let w : e ≡ x.edges = cc in rw w (f x refl)
 
-    found : (x : Crossing) → crossing_on m.section m.line ≡ result x → EdgesOf m x.edges
+    found : (x : Crossing) → crossing_on m.section m.line ≡ Ok x → EdgesOf m x.edges
     found x p =
         let there = crossing_there m.section m.line x p in
         let below = crossing-edges_below m.section m.line x there in
         (below.0, below.1, crossing-edges-differ m.section m.line x there)
 
-    go : (a : Answer (Unit {0})) → found_edges (a >>= λ passed. crossing_on m.section m.line) ≡ some e → EdgesOf m e
-    go (refusal r) p = let z : ◌≡◌ {A = ℕ} 0 1 = cc in absurd (omega arith)
-    go (result passed) p = met (crossing_on m.section m.line) found p
+    go : (a : Answer (Unit {0})) → found_edges (a >>= λ passed. crossing_on m.section m.line) ≡ Some e → EdgesOf m e
+    go (Err r) p = let z : ◌≡◌ {A = ℕ} 0 1 = cc in absurd (omega arith)
+    go (Ok passed) p = met (crossing_on m.section m.line) found p

@@ -3,7 +3,8 @@ use mathlib.Core.Path.{refl}
 use mathlib.Core.List.{[], ◌∷◌}
 use Prim.Native.Nat.{ℕ}
 use native.Mathlib.Omega.{arith}
-use Rattle.errors.specs.Answer.{Answer, result, refusal, ◌>>=◌}
+use Rattle.std.specs.Prelude.{Ok, Err}
+use Rattle.errors.specs.Answer.{Answer, ◌>>=◌}
 use Rattle.errors.proofs.Laws.{not_14}
 use Rattle.runs.specs.Run.{under_limit, never}
 use Rattle.inscribed.specs.Store.{slots, circles_from}
@@ -26,12 +27,12 @@ module _ (m : Marched) where
   march_law limit = go (march_entry m)
     where
       begun : (a : Answer Inscribed) → LimitLaw m.section m.tol m.store 0 (λ l. ran (after_start m (under_limit l) a)) (ran (after_start m never a)) (λ l. marched_from m (under_limit l) a) limit
-      begun (refusal r) = still_law m.section m.tol m.store 0 (ran (not_started m r)) (not-unfinished (refusal r)) refl refl refl (not_14 r) limit
-      begun (result c) =
+      begun (Err r) = still_law m.section m.tol m.store 0 (ran (not_started m r)) (not-unfinished (Err r)) refl refl refl (not_14 r) limit
+      begun (Ok c) =
           run_law (march_step m.section m.tol (slots m.store)) (measure (slots m.store)) (march_falls m.section m.tol (slots m.store)) (march_grows m.section m.tol (slots m.store)) m.section m.tol m.store 0
           (refining [] (c ∷ [])) (unfold circles_from in refl) (omega arith) (start_sound c)
           (march_sound_goes m.section m.tol 0 (slots m.store)) (march_sound_pays m.section m.tol 0 (slots m.store)) limit
 
       go : (e : Answer (Unit {0})) → LimitLaw m.section m.tol m.store 0 (λ l. march_after m (under_limit l) e) (march_after m never e) (λ l. marched_from m (under_limit l) (e >>= λ passed. start_of m)) limit
-      go (refusal r) = still_law m.section m.tol m.store 0 (refused_on_entry r m.store) tt refl refl refl (not_14 r) limit
-      go (result passed) = begun (start_of m)
+      go (Err r) = still_law m.section m.tol m.store 0 (refused_on_entry r m.store) tt refl refl refl (not_14 r) limit
+      go (Ok passed) = begun (start_of m)

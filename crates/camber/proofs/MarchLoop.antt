@@ -2,14 +2,14 @@
 use mathlib.Core.Path.{◌≡◌, refl, ap, ◌∙◌}
 use mathlib.Core.Bool.{Bool, true, false, cond}
 use mathlib.Core.List.{List, [], ◌∷◌}
-use mathlib.Core.Option.{Option, some, none}
+use Rattle.std.specs.Prelude.{Option, Some, None, Ok, Err}
 use Prim.Native.Nat.{ℕ, zero, suc, ◌+◌, ◌≤◌}
 use native.Mathlib.Omega.{arith}
 use borrow.Author.Tests.{lt-ltb, le-ltb}
 use lib.Dec.{ltb}
 use lib.ListN.{length}
 use lib.Ieee.{Float, lt}
-use Rattle.errors.specs.Answer.{Answer, result, refusal}
+use Rattle.errors.specs.Answer.{Answer}
 use Rattle.errors.specs.Lists.{last_of}
 use Rattle.line2.specs.declared.surface2.SurfacePoint2.{SurfacePoint2}
 use Rattle.queries.specs.declared.Crossing.{Crossing}
@@ -49,14 +49,14 @@ module _ (ns : List Float) (tol : Float) (slots limit : ℕ) (old : List Float) 
   unfolding reported
   ended_report s u e p = rw (whole_ends (march_step ns tol slots) (measure slots) (march_falls ns tol slots) full s u e p)
 
-  over_report : (cs : List Inscribed) (n : Refusal) (u : ℕ) → reported old (march_run ns tol slots full (stopped cs n) u) ≡ report (ended (refusal n)) (length cs) u (stored cs old)
+  over_report : (cs : List Inscribed) (n : Refusal) (u : ℕ) → reported old (march_run ns tol slots full (stopped cs n) u) ≡ report (ended (Err n)) (length cs) u (stored cs old)
   unfolding march_step
-  over_report cs n u = ended_report (stopped cs n) u (refusal n) refl
+  over_report cs n u = ended_report (stopped cs n) u (Err n) refl
 
   circle_outcome_lem : (cs : List Inscribed) (u : ℕ) (a : Answer Inscribed) → reported old (march_run ns tol slots full (after_circle cs a) u) ≡ outcome_report cs (circle_outcome u a)
   unfolding after_circle circle_outcome
-  circle_outcome_lem cs u (refusal n) = over_report cs n u
-  circle_outcome_lem cs u (result d) = refl
+  circle_outcome_lem cs u (Err n) = over_report cs n u
+  circle_outcome_lem cs u (Ok d) = refl
 
   module _ (c₀ : Inscribed) (ds : List Inscribed) where
     abbrev cs : List Inscribed
@@ -65,7 +65,7 @@ module _ (ns : List Float) (tol : Float) (slots limit : ℕ) (old : List Float) 
     abbrev c : Inscribed
     c = last_of c₀ ds
 
-    module _ (ray : SurfacePoint2) (is : look_ahead ns c ≡ result (advance_ray ray)) where
+    module _ (ray : SurfacePoint2) (is : look_ahead ns c ≡ Ok (advance_ray ray)) where
       step_at : (k : ℕ) → march_step ns tol slots (advancing cs k) ≡ cond (lt (step_of c k) tol) (ends finished) (pays (after_line ns tol cs k (tried_line ns c ray k)))
       unfolding march_step advance_move
       step_at k = rw is
@@ -75,9 +75,9 @@ module _ (ns : List Float) (tol : Float) (slots limit : ℕ) (old : List Float) 
           → reported old (march_run ns tol slots full (cond (ltb k 3) (advancing cs (suc k)) (stopped cs NoAdvance)) u) ≡ outcome_report cs next
           → reported old (march_run ns tol slots full (after_line ns tol cs k a) u) ≡ outcome_report cs (line_outcome ns tol next u a)
       unfolding after_line line_outcome
-      line_outcome_lem k u next (refusal n) h = over_report cs n u
-      line_outcome_lem k u next (result none) h = h
-      line_outcome_lem k u next (result (some x)) h = circle_outcome_lem cs u (from_crossing ns tol x)
+      line_outcome_lem k u next (Err n) h = over_report cs n u
+      line_outcome_lem k u next (Ok None) h = h
+      line_outcome_lem k u next (Ok (Some x)) h = circle_outcome_lem cs u (from_crossing ns tol x)
 
       try_outcome : (left k u : ℕ)
           → reported old (march_run ns tol slots full (cond (ltb k 3) (advancing cs (suc k)) (stopped cs NoAdvance)) (suc u)) ≡ outcome_report cs (tries_from ns tol c ray full left (suc k) (suc u))
@@ -103,9 +103,9 @@ module _ (ns : List Float) (tol : Float) (slots limit : ℕ) (old : List Float) 
     advance_outcome_lem u = go (look_ahead ns c) refl
       where
         go : (a : Answer MarchAhead) → look_ahead ns c ≡ a → reported old (march_run ns tol slots full (advancing cs 0) u) ≡ outcome_report cs (ahead_outcome ns tol c full u a)
-        go (refusal n) e = ended_report (advancing cs 0) u (refusal n) (rw e)
-        go (result done) e = ended_report (advancing cs 0) u finished (rw e)
-        go (result (advance_ray ray)) e = tries_outcome ray e 3 0 u refl
+        go (Err n) e = ended_report (advancing cs 0) u (Err n) (rw e)
+        go (Ok done) e = ended_report (advancing cs 0) u finished (rw e)
+        go (Ok (advance_ray ray)) e = tries_outcome ray e 3 0 u refl
 
   -- ---- one refinement
 

@@ -2,14 +2,14 @@
 use mathlib.Core.Path.{◌≡◌, refl, ap, ◌∙◌}
 use mathlib.Core.Bool.{Bool, true, false, cond}
 use mathlib.Core.List.{List, [], ◌∷◌}
-use mathlib.Core.Option.{Option, some, none}
+use Rattle.std.specs.Prelude.{Option, Some, None, Ok, Err}
 use Prim.Native.Nat.{ℕ, suc, ◌≤◌, ◌<◌}
 use native.Mathlib.Omega.{arith}
 use borrow.Author.Tests.{ltb-true}
 use lib.Dec.{leb, ltb}
 use lib.ListN.{length}
 use lib.Ieee.{Float, lt}
-use Rattle.errors.specs.Answer.{Answer, result, refusal}
+use Rattle.errors.specs.Answer.{Answer}
 use Rattle.errors.specs.Lists.{last_of}
 use Rattle.queries.specs.declared.Crossing.{Crossing}
 use Rattle.runs.specs.Run.{Move, ends, goes, pays, under_limit, whole}
@@ -33,25 +33,25 @@ record Advanced (slots : ℕ) (cs : List Inscribed) (k : ℕ) (t : State) : Type
 
 circle_advanced : (slots : ℕ) (cs : List Inscribed) (k : ℕ) (a : Answer Inscribed) → Advanced slots cs k (after_circle cs a)
 unfolding after_circle measure
-circle_advanced slots cs k (refusal n) = record { kept = refl; falls = omega arith }
-circle_advanced slots cs k (result d) = record { kept = refl; falls = omega arith }
+circle_advanced slots cs k (Err n) = record { kept = refl; falls = omega arith }
+circle_advanced slots cs k (Ok d) = record { kept = refl; falls = omega arith }
 
 line_advanced : (ns : List Float) (tol : Float) (slots : ℕ) (cs : List Inscribed) (k : ℕ) (a : Answer (Option Crossing)) → Advanced slots cs k (after_line ns tol cs k a)
 unfolding after_line measure
-line_advanced ns tol slots cs k (refusal n) = record { kept = refl; falls = omega arith }
-line_advanced ns tol slots cs k (result none) = go (ltb k 3) (ltb-true k 3)
+line_advanced ns tol slots cs k (Err n) = record { kept = refl; falls = omega arith }
+line_advanced ns tol slots cs k (Ok None) = go (ltb k 3) (ltb-true k 3)
   where
     go : (b : Bool) → (b ≡ true → k < 3) → Advanced slots cs k (cond b (advancing cs (suc k)) (stopped cs NoAdvance))
     go true h = record { kept = refl; falls = omega (arith, h refl) }
     go false h = record { kept = refl; falls = omega arith }
-line_advanced ns tol slots cs k (result (some x)) = circle_advanced slots cs k (from_crossing ns tol x)
+line_advanced ns tol slots cs k (Ok (Some x)) = circle_advanced slots cs k (from_crossing ns tol x)
 
 module _ (ns : List Float) (tol : Float) (slots : ℕ) (cs : List Inscribed) (c : Inscribed) (k : ℕ) where
   advance-goes : {A : Type 0} (a : Answer MarchAhead) (t : State) → advance_move ns tol cs c k a ≡ goes t → A
   unfolding advance_move
-  advance-goes (refusal n) t p = no_goes p
-  advance-goes (result done) t p = no_goes p
-  advance-goes {A} (result (advance_ray ray)) t p = go (lt (step_of c k) tol) p
+  advance-goes (Err n) t p = no_goes p
+  advance-goes (Ok done) t p = no_goes p
+  advance-goes {A} (Ok (advance_ray ray)) t p = go (lt (step_of c k) tol) p
     where
       go : (b : Bool) → cond {A = Move State End} b (ends finished) (pays (after_line ns tol cs k (tried_line ns c ray k))) ≡ goes t → A
       go true q = no_goes q
@@ -59,9 +59,9 @@ module _ (ns : List Float) (tol : Float) (slots : ℕ) (cs : List Inscribed) (c 
 
   advance-pays : (a : Answer MarchAhead) (t : State) → advance_move ns tol cs c k a ≡ pays t → Advanced slots cs k t
   unfolding advance_move
-  advance-pays (refusal n) t p = no_pays p
-  advance-pays (result done) t p = no_pays p
-  advance-pays (result (advance_ray ray)) t p = go (lt (step_of c k) tol) p
+  advance-pays (Err n) t p = no_pays p
+  advance-pays (Ok done) t p = no_pays p
+  advance-pays (Ok (advance_ray ray)) t p = go (lt (step_of c k) tol) p
     where
       go : (b : Bool) → cond {A = Move State End} b (ends finished) (pays (after_line ns tol cs k (tried_line ns c ray k))) ≡ pays t → Advanced slots cs k t
       go true q = no_pays q
@@ -174,15 +174,15 @@ module _ (ns : List Float) (tol : Float) (slots : ℕ) where
 
   after_refines : (cs : List Inscribed) (b : Inscribed) (ws : List Inscribed) (r : Answer (Option Inscribed)) → Refines (after_trial slots cs b ws r)
   unfolding after_trial with_room
-  after_refines cs b ws (refusal n) = tt
-  after_refines cs b ws (result (some d)) = go (leb 64 (suc (length ws)))
+  after_refines cs b ws (Err n) = tt
+  after_refines cs b ws (Ok (Some d)) = go (leb 64 (suc (length ws)))
     where
-      go : (x : Bool) → Refines (after_room cs b ws (cond x (refusal StackFull) (result (some d))))
+      go : (x : Bool) → Refines (after_room cs b ws (cond x (Err StackFull) (Ok (Some d))))
       go true = tt
       go false = tt
-  after_refines cs b ws (result none) = go (leb slots (length cs))
+  after_refines cs b ws (Ok None) = go (leb slots (length cs))
     where
-      go : (x : Bool) → Refines (after_room cs b ws (cond x (refusal StoreFull) (result none)))
+      go : (x : Bool) → Refines (after_room cs b ws (cond x (Err StoreFull) (Ok None)))
       go true = tt
       go false = tt
 

@@ -1,36 +1,39 @@
 // Extraction: a march in each direction from a reference line.
 ghost use Rattle.std.specs.Prelude.{◌≡◌, Float};
-ghost use Rattle.curve2.specs.Entry.{HasPoints};
 ghost use Rattle.runs.specs.Run.{under_limit};
 ghost use Rattle.refine.specs.Report.{listed_run, listed_called};
 ghost use Rattle.camber.specs.Extraction.{first_half, extraction_of};
 
 use crate::halves;
-use curve2::Entry;
-use inscribed::{Inscribed, InscribedAnswer};
+use curve2::checked::Curve2;
+use errors::Refusal;
+use inscribed::Inscribed;
 use line2::Line2;
-use refine::{Run, RunAnswer, RunEnd};
+use refine::{Run, RunEnd};
 
 // The circles on both sides of a reference line, of a section that passed the entry tests, from the first circle on.
 fn both_halves(
-    section: &[f64],
+    section: &Curve2<'_>,
     tol: f64,
     line: Line2,
     store: &mut [f64],
     circle: Inscribed,
     limit: u32,
 ) -> Run
-    requires { HasPoints section.now }
-    ensures { (section_tol : Float) → listed_run result store.new ≡ first_half (record { section = section.now; section_tol = section_tol; tol = tol; line = line; store = store.old }) (under_limit limit) circle }
+    ensures { (section_tol : Float) → listed_run result store.new ≡ first_half (record { section = section.now.points.now; section_tol = section_tol; tol = tol; line = line; store = store.old }) (under_limit limit) circle }
 {
     let slots = inscribed::store::slots_in(store.len());
     let first = crate::march::march_from(section, tol, store, slots, circle, limit, 0);
-    let end = first.end;
-    let count = first.count;
-    let units = first.units;
-    match end {
+    match first.end {
         RunEnd::Finished => halves::second_half(
-            section, tol, line, store, slots, count, limit, units,
+            section,
+            tol,
+            line,
+            store,
+            slots,
+            first.count,
+            limit,
+            first.units,
         ),
         RunEnd::Spent => first,
         RunEnd::Refused(_) => first,
@@ -38,6 +41,7 @@ fn both_halves(
 }
 
 // The circles on both sides of a reference line, within one limit of units over both marches.
+#[tactic(auto, unfolding(crate::specs::Extraction::extraction_after))]
 pub fn extract_circles(
     section: &[f64],
     section_tol: f64,
@@ -45,20 +49,12 @@ pub fn extract_circles(
     line: Line2,
     store: &mut [f64],
     limit: u32,
-) -> RunAnswer
+) -> Result<Run, Refusal>
     ensures { listed_called result store.new ≡ extraction_of (record { section = section.now; section_tol = section_tol; tol = tol; line = line; store = store.old }) limit }
 {
-    match crate::march::entered(section, section_tol, tol, line) {
-        Entry::Passed => match halving::checked::inscribed_on(section, tol, line) {
-            InscribedAnswer::Value(c) => {
-                let run = both_halves(section, tol, line, store, c, limit);
-                RunAnswer::Ran(run)
-            }
-            InscribedAnswer::Refused(r) => {
-                let run = Run::refused(r, 0, 0);
-                RunAnswer::Ran(run)
-            }
-        },
-        Entry::Refused(r) => RunAnswer::Refused(r),
+    let curve = crate::march::entered(section, section_tol, tol, line)?;
+    match halving::checked::inscribed_on(&curve, tol, line) {
+        Ok(circle) => Ok(both_halves(&curve, tol, line, store, circle, limit)),
+        Err(r) => Ok(Run::refused(r, 0, 0)),
     }
 }

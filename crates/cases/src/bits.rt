@@ -10,8 +10,8 @@ pub(crate) fn float(bits: u64) -> f64 {
 
 // The number's bits; one pattern for every NaN.
 pub(crate) fn pattern(x: f64) -> u64 {
-    if x != x {
+    if x.is_nan() {
         return 0x7ff8_0000_0000_0000;
     }
-    f64::to_bits(x)
+    x.to_bits()
 }

@@ -14,10 +14,8 @@ fn mixed(sum: u64, word: u64) -> u64 {
 // The same for numbers, by their bits.
 fn mixed_numbers(sum: u64, numbers: &[f64]) -> u64 {
     let mut s = sum;
-    let mut i: usize = 0;
-    while i < numbers.len() {
-        s = mixed(s, bits::pattern(numbers[i]));
-        i += 1;
+    for x in numbers {
+        s = mixed(s, bits::pattern(*x));
     }
     s
 }
@@ -28,12 +26,10 @@ pub(crate) const PUBLISHED: usize = WIDTH - 2;
 // The same for a store, by those numbers of its circles that the published functions have.
 fn mixed_circles(sum: u64, store: &[f64]) -> u64 {
     let mut s = sum;
-    let mut i: usize = 0;
-    while i < store.len() {
+    for (i, x) in store.iter().enumerate() {
         if i % WIDTH < PUBLISHED {
-            s = mixed(s, bits::pattern(store[i]));
+            s = mixed(s, bits::pattern(*x));
         }
-        i += 1;
     }
     s
 }
@@ -64,11 +60,9 @@ pub(crate) fn root_bits(x: f64) -> u64 {
 pub(crate) fn roots_checksum(n: usize) -> u64 {
     let mut sum: u64 = 1;
     let mut x: u64 = 0x9e37_79b9_7f4a_7c15;
-    let mut i: usize = 0;
-    while i < n {
+    for _root in 0..n {
         x = inputs::next(x);
         sum = mixed(sum, root_bits(bits::float(x % 0x8000_0000_0000_0000)));
-        i += 1;
     }
     sum
 }

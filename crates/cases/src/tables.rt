@@ -11,14 +11,12 @@ pub(crate) fn find(text: &[u8], at: usize, byte: u8) -> usize
     requires { at ≤ length text.now }
     ensures { (at ≤ result) × (result ≤ length text.now) }
 {
-    let mut i: usize = at;
-    while i < text.len() {
+    for i in at..text.len() {
         if text[i] == byte {
             return i;
         }
-        i += 1;
     }
-    i
+    text.len()
 }
 
 // Whether two texts are the same.
@@ -26,12 +24,10 @@ pub(crate) fn is_same(a: &[u8], b: &[u8]) -> bool {
     if a.len() != b.len() {
         return false;
     }
-    let mut i: usize = 0;
-    while i < a.len() {
-        if a[i] != b[i] {
+    for (x, y) in a.iter().zip(b) {
+        if *x != *y {
             return false;
         }
-        i += 1;
     }
     true
 }
@@ -39,14 +35,12 @@ pub(crate) fn is_same(a: &[u8], b: &[u8]) -> bool {
 // Word number k of a line, counted from 0; an empty one where there are fewer. One blank stands between two words.
 pub(crate) fn word(line: &[u8], k: usize) -> &[u8] {
     let mut at: usize = 0;
-    let mut i: usize = 0;
-    while i < k {
+    for _word in 0..k {
         let end = find(line, at, BLANK);
         if line.len() <= end {
             return &line[0..0];
         }
         at = end + 1;
-        i += 1;
     }
     let end = find(line, at, BLANK);
     &line[at..end]
@@ -84,13 +78,11 @@ fn digit(c: u8) -> u64 {
 // The whole number that the decimal digits write, without their point and sign.
 fn digits(word: &[u8]) -> u64 {
     let mut n: u64 = 0;
-    let mut i: usize = 0;
-    while i < word.len() {
-        let d = digit(word[i]);
+    for c in word {
+        let d = digit(*c);
         if d < 10 {
             n = n % 1_000_000_000_000_000_000 * 10 + d;
         }
-        i += 1;
     }
     n
 }
@@ -98,13 +90,11 @@ fn digits(word: &[u8]) -> u64 {
 // The bits that hexadecimal digits write.
 fn hexadecimal(word: &[u8]) -> u64 {
     let mut n: u64 = 0;
-    let mut i: usize = 0;
-    while i < word.len() {
-        let d = digit(word[i]);
+    for c in word {
+        let d = digit(*c);
         if d < 16 {
             n = n % 1_152_921_504_606_846_976 * 16 + d;
         }
-        i += 1;
     }
     n
 }
@@ -113,15 +103,13 @@ fn hexadecimal(word: &[u8]) -> u64 {
 fn scale_of(word: &[u8]) -> f64 {
     let mut behind = false;
     let mut x: f64 = 1.0;
-    let mut i: usize = 0;
-    while i < word.len() {
+    for c in word {
         if behind {
             x = x * 10.0;
         }
-        if word[i] == b'.' {
+        if *c == b'.' {
             behind = true;
         }
-        i += 1;
     }
     x
 }

@@ -1,17 +1,15 @@
 -- Each call: "entry tests in number order", then its step. Assumes nothing.
-use Rattle.std.specs.Prelude.{Bool, false, not, ◌||◌, List, Float}
-use Rattle.std.proofs.Math.Option.{Option}
-use Rattle.errors.specs.Answer.{Answer, result, refusal, ◌>>=◌}
+use Rattle.std.specs.Prelude.{Bool, false, not, ◌||◌, List, Float, Option, Ok}
+use Rattle.errors.specs.Answer.{Answer, ◌>>=◌}
 use Rattle.line2.specs.declared.Line2.{Line2}
 use Rattle.curve2.specs.Entry.{bad_general, section_entry}
-use Rattle.sections.specs.Asked.{finite_line}
+use Rattle.line2.specs.Lines.{finite_line}
 use Rattle.inscribed.specs.Store.{bad_circle}
 use Rattle.inscribed.specs.declared.Inscribed.{Inscribed}
 use Rattle.queries.specs.Crossing.{crossing_on}
 use Rattle.halving.specs.Halving.{from_line, from_crossing}
 use Rattle.circles.specs.Trial.{trial}
 use Rattle.circles.specs.declared.CircleOnLine.{CircleOnLine}
-use Rattle.circles.specs.declared.CircleOnLineAnswer.{CircleOnLineAnswer}
 
 -- with whether a number of the other arguments is bad, and whether the general tolerance is finer than the section's (23): one circle or one trial isn't held to that
 unfoldable pub circle_entry : List Float → Float → Float → Bool → Bool → Answer (Unit {0})
@@ -31,13 +29,8 @@ try_asked ns section_tol tol l =
     line_entry ns section_tol tol l false >>= λ passed.
     crossing_on ns l >>= λ x.
     from_crossing ns tol x >>= λ c.
-    result (record { circle = c; edges = x.edges })
+    Ok (record { circle = c; edges = x.edges })
 
 -- `inscribed_refined` of a, the earlier, and b
 unfoldable pub trial_asked : List Float → Float → Float → Inscribed → Inscribed → Answer (Option Inscribed)
 trial_asked ns section_tol tol a b = circle_entry ns section_tol tol (bad_circle a || bad_circle b) false >>= λ passed. trial ns tol a b
-
--- what it lists: the circle with its edges, or the refusal
-abbrev pub listed_circle_on_line : CircleOnLineAnswer → Answer CircleOnLine
-listed_circle_on_line (CircleOnLineAnswer.Value c) = result c
-listed_circle_on_line (CircleOnLineAnswer.Refused r) = refusal r

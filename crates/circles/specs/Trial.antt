@@ -1,8 +1,7 @@
 -- `inscribed_refined`, the trial. Assumes nothing.
-use Rattle.std.specs.Prelude.{◌||◌, cond, List, Float}
-use Rattle.std.proofs.Math.Option.{Option, some, none}
+use Rattle.std.specs.Prelude.{◌||◌, cond, List, Float, Option, Some, None, Ok}
 use Rattle.std.specs.Float.Ieee.{lt, neg}
-use Rattle.errors.specs.Answer.{Answer, result, watched, ◌>>=◌}
+use Rattle.errors.specs.Answer.{Answer, watched, ◌>>=◌}
 use Rattle.points.specs.Numbers.{◌+f◌, ◌-f◌, ◌*f◌, f0, f½}
 use Rattle.points.specs.Points.{dist_of}
 use Rattle.points.specs.declared.AngleDir.TheVariants.{Ccw}
@@ -25,11 +24,11 @@ middle_radius a b = (b.r -f a.r) *f f½ +f a.r
 
 -- the circle on the halfway line is added where it is larger than both, or its radius or its place is off by more than the tolerance
 unfoldable pub judged : Float → Inscribed → Inscribed → SurfacePoint2 → Option Inscribed → Answer (Option Inscribed)
-judged tol a b ray none = result none
-judged tol a b ray (some c) =
+judged tol a b ray None = Ok None
+judged tol a b ray (Some c) =
     watched (size_of (c.r -f middle_radius a b)) >>= λ eRadius.
     dist_of ray.point (center c) >>= λ ePos.
-    result (cond (lt (greater a.r b.r) c.r || (lt tol eRadius || lt tol ePos)) (some c) none)
+    Ok (cond (lt (greater a.r b.r) c.r || (lt tol eRadius || lt tol ePos)) (Some c) None)
 
 -- from the halfway ray on: "a halfway line without a crossing adds nothing and is no refusal"
 unfoldable pub tried_on : List Float → Float → Inscribed → Inscribed → SurfacePoint2 → Answer (Option Inscribed)

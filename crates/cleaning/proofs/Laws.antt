@@ -8,7 +8,8 @@ use borrow.Author.Tests.{eq-eqb, le-ltb, ltb-false}
 use lib.Dec.{ltb, lit≤}
 use lib.ListN.{length}
 use lib.Ieee.{Float, le}
-use Rattle.errors.specs.Answer.{Answer, result, refusal, ◌>>=◌}
+use Rattle.std.specs.Prelude.{Ok, Err}
+use Rattle.errors.specs.Answer.{Answer, ◌>>=◌}
 use Rattle.errors.specs.Lists.{last_of}
 use Rattle.points.specs.declared.Point2.{Point2}
 use Rattle.curve2.specs.Section.{points_of, plain_dist, ends_meet, lengths_of}
@@ -143,15 +144,15 @@ module _ (ns : List Float) (tol : Float) (forced : Bool) (count : bad_count most
       }
 
 -- where the tests passed, what came after them is the answer
-tests_first : (a : Answer (Unit {0})) (b : Answer (List Point2)) (ps : List Point2) → (a >>= λ passed. b) ≡ result ps → (a ≡ result tt) × (b ≡ result ps)
-tests_first (result tt) b ps e = (refl, e)
-tests_first (refusal n) b ps e = let z : ◌≡◌ {A = ℕ} 0 1 = cc in absurd (omega arith)
+tests_first : (a : Answer (Unit {0})) (b : Answer (List Point2)) (ps : List Point2) → (a >>= λ passed. b) ≡ Ok ps → (a ≡ Ok tt) × (b ≡ Ok ps)
+tests_first (Ok tt) b ps e = (refl, e)
+tests_first (Err n) b ps e = let z : ◌≡◌ {A = ℕ} 0 1 = cc in absurd (omega arith)
 
-two-kept : (few : Bool) (qs ps : List Point2) → cond few (refusal TooFewKept) (result qs) ≡ result ps → (few ≡ false) × (qs ≡ ps)
+two-kept : (few : Bool) (qs ps : List Point2) → cond few (Err TooFewKept) (Ok qs) ≡ Ok ps → (few ≡ false) × (qs ≡ ps)
 two-kept false qs ps e = (refl, cc)
 two-kept true qs ps e = let z : ◌≡◌ {A = ℕ} 0 1 = cc in absurd (omega arith)
 
-pub cleaned_curve : (ns : List Float) (tol : Float) (forced : Bool) (room : ℕ) (ps : List Point2) → cleaned ns tol forced room ≡ result ps → IsCurve ps tol
+pub cleaned_curve : (ns : List Float) (tol : Float) (forced : Bool) (room : ℕ) (ps : List Point2) → cleaned ns tol forced room ≡ Ok ps → IsCurve ps tol
 unfolding cleaned curve_of
 cleaned_curve ns tol forced room ps e =
     let whole = kept tol (points_of ns) in

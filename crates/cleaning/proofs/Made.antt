@@ -1,6 +1,6 @@
 -- Laws of the curve that cleaning makes, and of its output. Assumes nothing.
 use mathlib.Core.Path.{◌≡◌, refl, sym, ap, ◌∙◌}
-use mathlib.Core.Bool.{Bool, true, false, ◌&&◌}
+use mathlib.Core.Bool.{Bool, true, false, ◌&&◌, cond}
 use mathlib.Core.List.{List, [], ◌∷◌}
 use Prim.Native.Nat.{ℕ, ◌+◌, ◌*◌, ◌%◌, ◌≤◌, ◌<◌}
 use native.Mathlib.Omega.{arith}
@@ -9,7 +9,8 @@ use lib.Dec.{ltb}
 use lib.ListN.{length, take, drop, length-append}
 use lib.Seq.{take_at}
 use lib.Ieee.{Float, le}
-use Rattle.errors.specs.Answer.{Answer, result, refusal}
+use Rattle.std.specs.Prelude.{Ok, Err}
+use Rattle.errors.specs.Answer.{Answer}
 use Rattle.errors.specs.Lists.{last_of}
 use Rattle.errors.specs.declared.Refusal.{Refusal}
 use Rattle.points.specs.declared.Point2.{Point2}
@@ -17,13 +18,13 @@ use Rattle.curve2.specs.Section.{points_of, point_at, plain_dist, ends_meet}
 use Rattle.curve2.proofs.Laws.{points_step, points-end}
 use Rattle.cleaning.specs.Cleaning.{kept, kept_after, point_numbers, placed, forced_closed, closing, curve_answer, output_after, Made}
 use Rattle.cleaning.specs.Code.{Held, keep, close_held, holding}
+use Rattle.cleaning.specs.declared.Curve.{Curve}
 use Rattle.cleaning.proofs.Numbers.{points-length, points-numbers, numbers-length}
 use Rattle.cleaning.proofs.HeldLaws.{keep_drops, keep_puts, first_point}
-use Rattle.cleaning.specs.declared.CurveAnswer.{CurveAnswer}
 
 -- ---- forced closing
 
-close-holding : (tol : Float) (forced : Bool) (old : List Float) (p : Point2) (ps : List Point2) → 2 * length (p ∷ ps) + 2 ≤ length old
+close-holding : (tol : Float) (forced : Bool) (old : List Float) (p : Point2) (ps : List Point2) → 2 * length (p ∷ ps) + cond forced 2 0 ≤ length old
     → close_held tol forced (holding old (p ∷ ps)) ≡ holding old (closing tol forced (p ∷ ps))
 unfolding close_held forced_closed ends_meet holding point_numbers
 close-holding tol false old p ps h = refl
@@ -44,6 +45,11 @@ closing-count tol true (p ∷ ps) = go (ends_meet tol (p ∷ ps)) refl
     go true e = rw e (omega arith, omega arith)
     go false e = rw e (omega (arith, length-append (p ∷ ps) (p ∷ [])), omega (arith, length-append (p ∷ ps) (p ∷ [])))
 
+-- and takes two numbers more at most
+closing_room : (tol : Float) (forced : Bool) (ps : List Point2) → 2 * length (closing tol forced ps) ≤ 2 * length ps + cond forced 2 0
+closing_room tol false ps = omega arith
+closing_room tol true ps = omega (arith, closing-count tol true ps)
+
 -- ---- a curve in an output
 
 pub held-count : (old : List Float) (ps : List Point2) (h : Held) → h ≡ holding old ps → h.kept.count ≡ length ps
@@ -62,13 +68,15 @@ module _ (old : List Float) (ps : List Point2) (end : ℕ) (out : List Float) (n
   pub first_length : length (take end out) ≡ end
   first_length = rw first_numbers (numbers-length ps ∙ sym n)
 
-  -- what is returned of it
-  pub made_result : (tol : Float) (closed : Bool) (count : ℕ) → count ≡ length ps → closed ≡ ends_meet tol (points_of (take end out))
-      → Made (result ps) tol old out (CurveAnswer.Value (record { count = count; is_closed = closed }))
-  unfolding curve_answer output_after
-  made_result tol closed count e f = record { listed = rw (f, first_numbers, points-numbers ps, e); output = o }
+-- what is returned of it
+pub made_curve : (old : List Float) (ps : List Point2) (out : List Float) → out ≡ placed ps old → (tol : Float) (count : ℕ) → count ≡ length ps
+    → (c : Curve) → c ≡ record { count = count; is_closed = ends_meet tol (points_of (take (2 * count) out)) } → Made (Ok ps) tol old out (Ok c)
+unfolding curve_answer output_after
+made_curve old ps out o tol count n c e =
+    let numbers = first_numbers old ps (2 * count) out (ap (λ (n : ℕ). 2 * n) n) o in
+    record { listed = rw (e, numbers, points-numbers ps, n); output = o }
 
-pub made_refused : {answer : Answer (List Point2)} (tol : Float) (old : List Float) (r : Refusal) → answer ≡ refusal r → Made answer tol old old (CurveAnswer.Refused r)
+pub made_refused : {answer : Answer (List Point2)} (tol : Float) (old : List Float) (r : Refusal) → answer ≡ Err r → Made answer tol old old (Err r)
 unfolding curve_answer output_after
 made_refused tol old r e = record { listed = rw e; output = rw e }
 
@@ -92,12 +100,12 @@ module _ (tol : Float) (ns : List Float) (even : length ns % 2 ≡ 0) (least : 2
   unfolding kept
   kept-most = let e = first_point ns least in rw e (omega (arith, points-length ns even, ap length e, kept-count tol (point_at ns 0) (points_of (drop 2 ns))))
 
-module _ (tol : Float) (ns old : List Float) (h₁ : Held) (e₁ : h₁ ≡ holding old (kept tol (points_of ns)))
-    (even : length ns % 2 ≡ 0) (least : 2 ≤ length ns) (room : length ns + 2 ≤ length old) where
-  pub close_room : 2 * h₁.kept.count + 2 ≤ length old
+module _ (tol : Float) (ns old : List Float) (forced : Bool) (h₁ : Held) (e₁ : h₁ ≡ holding old (kept tol (points_of ns)))
+    (even : length ns % 2 ≡ 0) (least : 2 ≤ length ns) (room : length ns + cond forced 2 0 ≤ length old) where
+  pub close_room : 2 * h₁.kept.count + cond forced 2 0 ≤ length old
   close_room = omega (arith, kept-most tol ns even least, held-count _ _ _ e₁)
 
-  module _ (forced : Bool) (h₂ : Held) (e₂ : h₂ ≡ close_held tol forced h₁) where
+  module _ (h₂ : Held) (e₂ : h₂ ≡ close_held tol forced h₁) where
     pub closed-held : h₂ ≡ holding old (closing tol forced (kept tol (points_of ns)))
     unfolding kept
     closed-held =
@@ -108,33 +116,11 @@ module _ (tol : Float) (ns old : List Float) (h₁ : Held) (e₁ : h₁ ≡ hold
     closed-count =
         let n = held-count _ _ _ closed-held in
         let m = closing-count tol forced (kept tol (points_of ns)) in
-        (omega (arith, kept_least tol ns even least), omega (arith, kept-most tol ns even least))
+        (omega (arith, kept_least tol ns even least), omega (arith, kept-most tol ns even least, closing_room tol forced (kept tol (points_of ns))))
 
-    -- the numbers of the curve: as many as they are said to be, and what is returned of them
-    pub closed-length : length (take (2 * h₂.kept.count) h₂.output) ≡ 2 * h₂.kept.count
-    closed-length = first_length _ _ (2 * h₂.kept.count) _ (ap (λ (n : ℕ). 2 * n) (held-count _ _ _ closed-held)) (held-output _ _ _ closed-held)
-
-    pub closed_made : (closed : Bool) → closed ≡ ends_meet tol (points_of (take (2 * h₂.kept.count) h₂.output))
-        → Made (result (closing tol forced (kept tol (points_of ns)))) tol old h₂.output (CurveAnswer.Value (record { count = h₂.kept.count; is_closed = closed }))
-    closed_made closed e =
-        made_result _ _ (2 * h₂.kept.count) _ (ap (λ (n : ℕ). 2 * n) (held-count _ _ _ closed-held)) (held-output _ _ _ closed-held) tol closed _ (held-count _ _ _ closed-held) e
-
--- without forced closing
-
-module _ (tol : Float) (ns old : List Float) (h : Held) (e : h ≡ holding old (kept tol (points_of ns)))
-    (even : length ns % 2 ≡ 0) (least : 2 ≤ length ns) (room : length ns ≤ length old) where
-  pub kept-fits : (1 ≤ h.kept.count) × (2 * h.kept.count ≤ length old)
-  kept-fits = let n = held-count _ _ _ e in (omega (arith, kept_least tol ns even least), omega (arith, kept-most tol ns even least))
-
-  twice : 2 * h.kept.count ≡ 2 * length (kept tol (points_of ns))
-  twice = ap (λ (n : ℕ). 2 * n) (held-count _ _ _ e)
-
-  pub kept-length : length (take (2 * h.kept.count) h.output) ≡ 2 * h.kept.count
-  kept-length = first_length _ _ (2 * h.kept.count) _ twice (held-output _ _ _ e)
-
-  pub kept_made : (closed : Bool) → closed ≡ ends_meet tol (points_of (take (2 * h.kept.count) h.output))
-      → Made (result (kept tol (points_of ns))) tol old h.output (CurveAnswer.Value (record { count = h.kept.count; is_closed = closed }))
-  kept_made closed f = made_result _ _ (2 * h.kept.count) _ twice (held-output _ _ _ e) tol closed _ (held-count _ _ _ e) f
+    pub closed_made : (c : Curve) → c ≡ record { count = h₂.kept.count; is_closed = ends_meet tol (points_of (take (2 * h₂.kept.count) h₂.output)) }
+        → Made (Ok (closing tol forced (kept tol (points_of ns)))) tol old h₂.output (Ok c)
+    closed_made c e = made_curve _ _ _ (held-output _ _ _ closed-held) tol _ (held-count _ _ _ closed-held) c e
 
 -- ---- 5: fewer than two points are kept
 

@@ -1,13 +1,12 @@
 -- `Curve2::from_points`: cleaning a list of points into a curve, and `reversed`; what each returns, and what it leaves in the output. Assumes nothing.
-use Rattle.std.specs.Prelude.{◌≡◌, Bool, false, cond, List, [], ◌∷◌, ◌++◌, reverse, ℕ, ◌+◌, ◌-◌, ◌*◌, ltb, length, drop, Float}
+use Rattle.std.specs.Prelude.{◌≡◌, Bool, false, cond, List, [], ◌∷◌, ◌++◌, reverse, ℕ, ◌+◌, ◌-◌, ◌*◌, ltb, length, drop, Float, Ok, Err}
 use Rattle.std.specs.Float.Ieee.{le}
-use Rattle.errors.specs.Answer.{Answer, result, refusal, ◌>>=◌}
+use Rattle.errors.specs.Answer.{Answer, ◌>>=◌}
 use Rattle.errors.specs.declared.Refusal.TheVariants.{BadNumber, NoRoom, PointCount, Tolerance, TooFewKept}
 use Rattle.points.specs.declared.Point2.{Point2}
 use Rattle.curve2.specs.Section.{points_of, plain_dist, ends_meet}
 use Rattle.curve2.specs.Entry.{tested, most_points, bad_count, bad_numbers, bad_tolerance, section_entry}
 use Rattle.cleaning.specs.declared.Curve.{Curve}
-use Rattle.cleaning.specs.declared.CurveAnswer.{CurveAnswer}
 
 -- ---- the curve of a list of points
 
@@ -32,7 +31,7 @@ closing tol forced ps = cond forced (forced_closed tol ps) ps
 
 -- 5: "cleaning leaves fewer than two points"
 unfoldable pub curve_of : Float → Bool → List Point2 → Answer (List Point2)
-curve_of tol forced ps = let k = kept tol ps in cond (ltb (length k) 2) (refusal TooFewKept) (result (closing tol forced k))
+curve_of tol forced ps = let k = kept tol ps in cond (ltb (length k) 2) (Err TooFewKept) (Ok (closing tol forced k))
 
 -- ---- cleaning what is handed in
 
@@ -60,7 +59,7 @@ cleaned ns tol forced room = cleaning_entry ns tol room >>= λ passed. curve_of 
 unfoldable pub backwards : List Float → Float → ℕ → Answer (List Point2)
 backwards ns tol room =
     section_entry ns tol (record { number = false; tolerance = false; finer = false; room = ltb room (length ns) }) >>= λ passed.
-    result (reverse (points_of ns))
+    Ok (reverse (points_of ns))
 
 -- ---- what is returned, and what the output holds then
 
@@ -74,18 +73,14 @@ placed ps old = point_numbers ps ++ drop (2 * length ps) old
 
 -- "all refusals of cleaning .. change no memory"
 unfoldable pub output_after : Answer (List Point2) → List Float → List Float
-output_after (result ps) old = placed ps old
-output_after (refusal n) old = old
+output_after (Ok ps) old = placed ps old
+output_after (Err n) old = old
 
 -- the count of points and whether the curve is closed
 unfoldable pub curve_answer : Float → Answer (List Point2) → Answer Curve
-curve_answer tol answer = answer >>= λ ps. result (record { count = length ps; is_closed = ends_meet tol ps })
-
-abbrev pub listed_curve : CurveAnswer → Answer Curve
-listed_curve (CurveAnswer.Value c) = result c
-listed_curve (CurveAnswer.Refused r) = refusal r
+curve_answer tol answer = answer >>= λ ps. Ok (record { count = length ps; is_closed = ends_meet tol ps })
 
 -- Both together: the answer r of a call whose curve, or refusal, is `answer`, and its output before and after it.
-pub record Made (answer : Answer (List Point2)) (tol : Float) (old new : List Float) (r : CurveAnswer) : Type 0 where
-  pub listed : listed_curve r ≡ curve_answer tol answer
+pub record Made (answer : Answer (List Point2)) (tol : Float) (old new : List Float) (r : Answer Curve) : Type 0 where
+  pub listed : r ≡ curve_answer tol answer
   pub output : new ≡ output_after answer old

@@ -4,14 +4,12 @@
 pub mod checked;
 pub mod reversed;
 
-ghost use Rattle.std.specs.Prelude.{length};
-ghost use Rattle.cleaning.specs.Cleaning.{cleaned, Made};
+ghost use Rattle.std.specs.Prelude.{◌≡◌, length};
+ghost use Rattle.cleaning.specs.Cleaning.{cleaning_entry, cleaned, Made};
 
 use curve2::{MOST_POINTS, entering};
 use errors::Refusal;
 use points::Point2;
-
-mod keeping;
 
 // Cleaning takes no more points than this: forced closing may add one.
 pub const MOST_CLEANED: usize = MOST_POINTS - 1;
@@ -23,13 +21,6 @@ pub struct Curve {
     pub is_closed: bool,
 }
 
-// A curve, or why there is none.
-#[derive(Clone, Copy)]
-pub enum CurveAnswer {
-    Value(Curve),
-    Refused(Refusal),
-}
-
 // What an output holds so far: how many points from its start on, and the last of them.
 #[derive(Clone, Copy)]
 pub struct Kept {
@@ -37,23 +28,35 @@ pub struct Kept {
     pub last: Point2,
 }
 
-// The curve of a list of points: a point no farther than the tolerance from the last one kept is dropped, and forced closing adds the start
-// where the ends are farther apart. The kept points come into the output, which keeps what stands behind them.
-pub fn from_points(points: &[f64], tol: f64, force_closed: bool, out: &mut [f64]) -> CurveAnswer
-    ensures { Made (cleaned points.now tol force_closed (length out.old)) tol out.old out.new result }
+// The entry tests of cleaning, in number order; `room` is the output's length.
+fn check_points(points: &[f64], tol: f64, room: usize) -> Result<(), Refusal>
+    ensures { result ≡ cleaning_entry points.now tol room }
 {
-    let n = points.len();
-    if entering::is_bad_count(MOST_CLEANED, n) {
-        return CurveAnswer::Refused(Refusal::PointCount);
+    if entering::is_bad_count(MOST_CLEANED, points.len()) {
+        return Err(Refusal::PointCount);
     }
     if entering::has_bad_number(points) {
-        return CurveAnswer::Refused(Refusal::BadNumber);
+        return Err(Refusal::BadNumber);
     }
     if entering::is_bad_tolerance(tol) {
-        return CurveAnswer::Refused(Refusal::Tolerance);
+        return Err(Refusal::Tolerance);
     }
-    if out.len() < n + 2 {
-        return CurveAnswer::Refused(Refusal::NoRoom);
+    if room < points.len() + 2 {
+        return Err(Refusal::NoRoom);
     }
+    Ok(())
+}
+
+// The curve of a list of points: a point no farther than the tolerance from the last one kept is dropped, and forced closing adds the start
+// where the ends are farther apart. The kept points come into the output, which keeps what stands behind them.
+pub fn from_points(
+    points: &[f64],
+    tol: f64,
+    force_closed: bool,
+    out: &mut [f64],
+) -> Result<Curve, Refusal>
+    ensures { Made (cleaned points.now tol force_closed (length out.old)) tol out.old out.new result }
+{
+    check_points(points, tol, out.len())?;
     checked::clean_points(points, tol, force_closed, out)
 }

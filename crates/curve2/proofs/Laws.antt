@@ -1,5 +1,5 @@
 -- Laws of a section's numbers and points. Assumes nothing.
-use mathlib.Core.Path.{◌≡◌, refl, ◌∙◌}
+use mathlib.Core.Path.{◌≡◌, refl, sym, ◌∙◌}
 use mathlib.Core.Bool.{Bool, true, false, not, ◌||◌, cond}
 use mathlib.Core.List.{List, [], ◌∷◌}
 use Prim.Native.Nat.{ℕ, suc, ◌+◌, ◌-◌, ◌/◌, ◌%◌, ◌≤◌, ◌<◌}
@@ -10,7 +10,8 @@ use lib.Dec.{eqb, ltb, lit≤}
 use lib.ListN.{length, drop, drop_of_length-le}
 use lib.Seq.{drop-cons}
 use lib.Ieee.{Float, nan, le}
-use Rattle.errors.specs.Answer.{result, refusal}
+use Rattle.std.specs.Prelude.{Ok, Err}
+use Rattle.errors.specs.Answer.{Answer, passed}
 use Rattle.errors.specs.Lists.{last_of}
 use Rattle.points.specs.Numbers.{◌+f◌}
 use Rattle.points.specs.declared.Point2.{Point2}
@@ -94,11 +95,11 @@ abbrev pub NoneBad : List (Refusal × Bool) → Type 0
 NoneBad [] = Unit {0}
 NoneBad (t ∷ ts) = (t.1 ≡ false) × NoneBad ts
 
-pub none_bad : (ts : List (Refusal × Bool)) → tested ts ≡ result tt → NoneBad ts
+pub none_bad : (ts : List (Refusal × Bool)) → tested ts ≡ Ok tt → NoneBad ts
 none_bad [] e = tt
 none_bad (t ∷ ts) e = go t.1 (none_bad ts) e
   where
-    go : (b : Bool) → (tested ts ≡ result tt → NoneBad ts) → cond b (refusal t.0) (tested ts) ≡ result tt → (b ≡ false) × NoneBad ts
+    go : (b : Bool) → (tested ts ≡ Ok tt → NoneBad ts) → cond b (Err t.0) (tested ts) ≡ Ok tt → (b ≡ false) × NoneBad ts
     go false k p = (refl, k p)
     go true k p = let z : ◌≡◌ {A = ℕ} 0 1 = cc in absurd (omega arith)
 
@@ -118,7 +119,7 @@ has_points ns most h e = record {
   most = omega (arith, count_most most (length ns) e);
 }
 
-module _ (ns : List Float) (tol : Float) (also : AlsoBad) (e : section_entry ns tol also ≡ result tt) where
+module _ (ns : List Float) (tol : Float) (also : AlsoBad) (e : section_entry ns tol also ≡ Ok tt) where
   none : NoneBad (section_tests ns tol also)
   unfolding section_entry
   none = none_bad (section_tests ns tol also) e
@@ -134,3 +135,11 @@ module _ (ns : List Float) (tol : Float) (also : AlsoBad) (e : section_entry ns 
   -- and of the other arguments
   pub entry_room : also.room ≡ false
   entry_room = none.1.1.1.1.0
+
+-- the same of a section that was lent on, by the two facts that its call ensures
+module _ {A : Type 0} (ns : List Float) (tol : Float) (also : AlsoBad) (r : Answer A) (s : A) (is : passed r ≡ section_entry ns tol also) (e : r ≡ Ok s) where
+  pub lent_section : IsSection ns tol
+  lent_section = entry_passed ns tol also (sym (rw e at is))
+
+  pub lent_room : also.room ≡ false
+  lent_room = entry_room ns tol also (sym (rw e at is))

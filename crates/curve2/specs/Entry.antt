@@ -1,20 +1,19 @@
 -- The entry tests: "1 to 6 are tested on entry in number order", and 23 "straight after 3 and before 4". Each is a number and whether its test fails; the first that fails is the answer.
 -- A call that hands in more than a section adds to the tests of 2, 3 and 4 what fails of its other arguments, and a call that isn't held to 23 has false there. Assumes nothing.
-use Rattle.std.specs.Prelude.{◌≡◌, Bool, false, not, ◌&&◌, ◌||◌, cond, List, [], ◌∷◌, ℕ, ◌*◌, ◌/◌, ◌%◌, ◌≤◌, eqb, ltb, length, Float}
+use Rattle.std.specs.Prelude.{◌≡◌, Bool, false, not, ◌&&◌, ◌||◌, cond, List, [], ◌∷◌, ℕ, ◌*◌, ◌/◌, ◌%◌, ◌≤◌, eqb, ltb, length, Float, Ok, Err}
 use Rattle.std.specs.Float.Ieee.{neg, lt, le, of_bits}
 use Rattle.std.specs.Float.{binary64}
-use Rattle.errors.specs.Answer.{Answer, result, refusal}
+use Rattle.errors.specs.Answer.{Answer}
 use Rattle.points.specs.Numbers.{f0}
 use Rattle.points.specs.declared.Point2.{Point2}
 use Rattle.curve2.specs.Section.{points_of, plain_dist, lengths_of}
 use Rattle.curve2.specs.declared.AlsoBad.{AlsoBad}
-use Rattle.curve2.specs.declared.Entry.{Entry}
 use Rattle.errors.specs.declared.Refusal.{Refusal}
 use Rattle.errors.specs.declared.Refusal.TheVariants.{BadNumber, FinerThanSection, NoRoom, NotSpaced, PointCount, Tolerance}
 
 abbrev pub tested : List (Refusal × Bool) → Answer (Unit {0})
-tested [] = result tt
-tested (t ∷ ts) = cond t.1 (refusal t.0) (tested ts)
+tested [] = Ok tt
+tested (t ∷ ts) = cond t.1 (Err t.0) (tested ts)
 
 -- 1,000,000
 abbrev pub million : Float
@@ -101,7 +100,3 @@ pub record IsSection (ns : List Float) (tol : Float) : Type 0 where
   pub numbers : bad_numbers ns ≡ false
   pub tolerance : bad_tolerance tol ≡ false
   pub spaced : not_spaced ns tol ≡ false
-
-abbrev pub listed_entry : Entry → Answer (Unit {0})
-listed_entry Entry.Passed = result tt
-listed_entry (Entry.Refused r) = refusal r

@@ -2,3 +2,4 @@
 pub mod Section
 pub mod Entry
 pub mod Stations
+pub mod Lent

@@ -1,6 +1,6 @@
 -- A station is a point of a section with a direction, its edge and its fraction of that edge. Stations at vertices. Assumes nothing.
-use Rattle.std.specs.Prelude.{◌&&◌, ◌||◌, cond, List, ℕ, ◌+◌, ◌-◌, ◌*◌, ◌/◌, eqb, length, Float}
-use Rattle.errors.specs.Answer.{Answer, result, refusal, ◌>>=◌}
+use Rattle.std.specs.Prelude.{◌&&◌, ◌||◌, cond, List, ℕ, ◌+◌, ◌-◌, ◌*◌, ◌/◌, eqb, length, Float, Ok}
+use Rattle.errors.specs.Answer.{Answer, ◌>>=◌}
 use Rattle.points.specs.Numbers.{f0, f1}
 use Rattle.points.specs.Points.{minus, plus, rotated, normalized}
 use Rattle.points.specs.declared.Point2.{Point2}
@@ -10,7 +10,6 @@ use Rattle.line2.specs.Rays.{surface_point}
 use Rattle.line2.specs.declared.surface2.SurfacePoint2.{SurfacePoint2}
 use Rattle.curve2.specs.Section.{point_at, is_closed}
 use Rattle.curve2.specs.declared.CurveStation2.{CurveStation2}
-use Rattle.curve2.specs.declared.StationAnswer.{StationAnswer}
 
 abbrev pub station : Point2 → Vector2 → ℕ → Float → CurveStation2
 station p d i f = record { point = p; direction = d; index = i; fraction = f }
@@ -42,7 +41,7 @@ vertex_direction ns tol i =
 unfoldable pub at_vertex : List Float → Float → ℕ → Answer CurveStation2
 at_vertex ns tol i =
     vertex_direction ns tol i >>= λ d.
-    result (cond (eqb i (last_vertex ns)) (station (vertex ns i) d (i - 1) f1) (station (vertex ns i) d i f0))
+    Ok (cond (eqb i (last_vertex ns)) (station (vertex ns i) d (i - 1) f1) (station (vertex ns i) d i f0))
 
 -- ---- what a station tells
 
@@ -53,7 +52,3 @@ normal_of s = rotated Cw s.direction
 -- `surface_point`: the point with that normal
 abbrev pub surface_of : CurveStation2 → SurfacePoint2
 surface_of s = surface_point s.point (normal_of s)
-
-abbrev pub listed_station : StationAnswer → Answer CurveStation2
-listed_station (StationAnswer.Value s) = result s
-listed_station (StationAnswer.Refused r) = refusal r

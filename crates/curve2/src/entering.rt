@@ -1,45 +1,34 @@
 // The entry tests of a section handed in.
-ghost use Rattle.std.specs.Prelude.{◌≡◌};
-ghost use Rattle.curve2.specs.Entry.{bad_count, bad_numbers, bad_tolerance, bad_general, finer_general, not_spaced, in_range, section_entry, HasPoints, listed_entry};
+ghost use Rattle.std.specs.Prelude.{◌≡◌, IfOk};
+ghost use Rattle.errors.specs.Answer.{passed};
+ghost use Rattle.curve2.specs.Entry.{bad_count, bad_numbers, bad_tolerance, bad_general, finer_general, not_spaced, in_range, section_entry, HasPoints};
 
-use crate::{AlsoBad, Entry, MOST_POINTS, checked};
+use crate::checked::Curve2;
+use crate::{AlsoBad, MOST_POINTS, checked};
 use errors::Refusal;
 
 // Test 1: a count of numbers that is odd, or of fewer than 2 points or more than `most`.
 pub fn is_bad_count(most: usize, count: usize) -> bool
     ensures { result ≡ bad_count most count }
 {
-    if count % 2 != 0 {
-        return true;
-    }
-    let points = count / 2;
-    if points < 2 {
-        return true;
-    }
-    most < points
+    count % 2 != 0 || count / 2 < 2 || most < count / 2
 }
 
 // Whether a coordinate is within 1,000,000 in size.
 pub fn is_in_range(x: f64) -> bool
     ensures { result ≡ in_range x }
 {
-    if -1000000.0 <= x {
-        x <= 1000000.0
-    } else {
-        false
-    }
+    -1000000.0 <= x && x <= 1000000.0
 }
 
 // Test 2: a coordinate that isn't finite or lies beyond 1,000,000.
 pub fn has_bad_number(points: &[f64]) -> bool
     ensures { result ≡ bad_numbers points.now }
 {
-    let mut i: usize = 0;
-    while i < points.len() {
-        if !is_in_range(points[i]) {
+    for x in points {
+        if !is_in_range(*x) {
             return true;
         }
-        i += 1;
     }
     false
 }
@@ -48,20 +37,14 @@ pub fn has_bad_number(points: &[f64]) -> bool
 pub fn is_bad_tolerance(tol: f64) -> bool
     ensures { result ≡ bad_tolerance tol }
 {
-    if 0.0 <= tol {
-        return !(tol <= 1000000.0);
-    }
-    true
+    !(0.0 <= tol && tol <= 1000000.0)
 }
 
 // Test 3 of a general tolerance: outside 1e-6 to 1,000.
 pub fn is_bad_general(tol: f64) -> bool
     ensures { result ≡ bad_general tol }
 {
-    if 0.000001 <= tol {
-        return !(tol <= 1000.0);
-    }
-    true
+    !(0.000001 <= tol && tol <= 1000.0)
 }
 
 // Test 23: a general tolerance smaller than the section tolerance.
@@ -76,54 +59,55 @@ pub(crate) fn is_not_spaced(points: &[f64], tol: f64) -> bool
     requires { HasPoints points.now }
     ensures { result ≡ not_spaced points.now tol }
 {
-    let mut l: f64 = 0.0;
-    let mut i: usize = 0;
-    while i + 3 < points.len() {
-        let d = checked::edge_length(points, i);
-        if d <= tol {
+    let mut length = 0.0;
+    for i in 0..points.len() / 2 - 1 {
+        let edge = checked::edge_length(points, 2 * i);
+        let next = edge + length;
+        if edge <= tol || !(length < next) {
             return true;
         }
-        let next = d + l;
-        if !(l < next) {
-            return true;
-        }
-        l = next;
-        i += 2;
+        length = next;
     }
     false
 }
 
 // The entry tests of a section, in number order and 23 straight after 3, with what fails of the other arguments.
-pub fn section_entry(points: &[f64], tol: f64, also: AlsoBad) -> Entry
-    ensures { listed_entry result ≡ section_entry points.now tol also }
+#[tactic(auto, unfolding(crate::specs::Entry::section_entry))]
+fn check_section(points: &[f64], tol: f64, also: AlsoBad) -> Result<(), Refusal>
+    ensures { result ≡ section_entry points.now tol also }
 {
-    let number = also.number;
-    let tolerance = also.tolerance;
-    let finer = also.finer;
-    let room = also.room;
     if is_bad_count(MOST_POINTS, points.len()) {
-        return Entry::Refused(Refusal::PointCount);
+        return Err(Refusal::PointCount);
     }
     if has_bad_number(points) {
-        return Entry::Refused(Refusal::BadNumber);
+        return Err(Refusal::BadNumber);
     }
-    if number {
-        return Entry::Refused(Refusal::BadNumber);
+    if also.number {
+        return Err(Refusal::BadNumber);
     }
     if is_bad_tolerance(tol) {
-        return Entry::Refused(Refusal::Tolerance);
+        return Err(Refusal::Tolerance);
     }
-    if tolerance {
-        return Entry::Refused(Refusal::Tolerance);
+    if also.tolerance {
+        return Err(Refusal::Tolerance);
     }
-    if finer {
-        return Entry::Refused(Refusal::FinerThanSection);
+    if also.finer {
+        return Err(Refusal::FinerThanSection);
     }
-    if room {
-        return Entry::Refused(Refusal::NoRoom);
+    if also.room {
+        return Err(Refusal::NoRoom);
     }
     if is_not_spaced(points, tol) {
-        return Entry::Refused(Refusal::NotSpaced);
+        return Err(Refusal::NotSpaced);
     }
-    Entry::Passed
+    Ok(())
+}
+
+// The entry tests of a section, in number order and 23 straight after 3, with what fails of the other arguments. The section that passed them is handed on.
+pub fn section_entry(points: &[f64], tol: f64, also: AlsoBad) -> Result<Curve2<'_>, Refusal>
+    ensures entry { passed result ≡ section_entry points.now tol also }
+    ensures lent { IfOk result (λ s. (s.points.now ≡ points.now) × (s.tol ≡ tol)) }
+{
+    check_section(points, tol, also)?;
+    Ok(Curve2 { points, tol })
 }

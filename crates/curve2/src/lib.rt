@@ -24,13 +24,6 @@ pub struct AlsoBad {
     pub room: bool,
 }
 
-// Whether the arguments passed the entry tests.
-#[derive(Clone, Copy)]
-pub enum Entry {
-    Passed,
-    Refused(Refusal),
-}
-
 // A place on a section: its point, the direction there, its edge and its fraction of that edge.
 #[derive(Clone, Copy)]
 pub struct CurveStation2 {
@@ -40,37 +33,30 @@ pub struct CurveStation2 {
     pub fraction: f64,
 }
 
-// A station, or why there is none.
-#[derive(Clone, Copy)]
-pub enum StationAnswer {
-    Value(CurveStation2),
-    Refused(Refusal),
-}
-
 impl CurveStation2 {
     // To the right of the direction.
     pub fn normal(self) -> Vector2
         ensures { result ≡ normal_of self }
     {
-        let d = self.direction;
-        d.rot90(AngleDir::Cw)
+        self.direction.rot90(AngleDir::Cw)
     }
 
     // The point with its normal.
     pub fn surface_point(self) -> SurfacePoint2
         ensures { result ≡ surface_of self }
     {
-        let point = self.point;
-        let normal = self.normal();
-        SurfacePoint2 { point, normal }
+        SurfacePoint2 {
+            point: self.point,
+            normal: self.normal(),
+        }
     }
 }
 
-// The distance of two points by their coordinates.
-pub fn plain_dist(ax: f64, ay: f64, bx: f64, by: f64) -> f64
-    ensures { result ≡ plain_dist (point ax ay) (point bx by) }
+// The distance of two points of a section. It is not watched: it is finite, as every coordinate is within 1,000,000.
+#[tactic(auto, unfolding(crate::specs::Section::plain_dist))]
+pub fn plain_dist(a: Point2, b: Point2) -> f64
+    ensures { result ≡ plain_dist a b }
 {
-    let x = ax - bx;
-    let y = ay - by;
-    root::square_root(x * x + y * y)
+    let v = a - b;
+    root::square_root(v.x * v.x + v.y * v.y)
 }

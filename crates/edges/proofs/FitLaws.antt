@@ -6,7 +6,8 @@ use Prim.Native.Nat.{ℕ, ◌≤◌}
 use native.Mathlib.Omega.{arith}
 use lib.ListN.{length}
 use lib.Ieee.{Float}
-use Rattle.errors.specs.Answer.{Answer, result, refusal}
+use Rattle.std.specs.Prelude.{Ok, Err}
+use Rattle.errors.specs.Answer.{Answer}
 use Rattle.runs.specs.Run.{under_limit}
 use Rattle.inscribed.specs.Store.{circles_of, stored}
 use Rattle.inscribed.proofs.StoreLaws.{length-circles, stored_longer, circles_of-stored}
@@ -33,8 +34,8 @@ module _ (ns : List Float) (section_tol tol : Float) (slots limit : ℕ) (front 
 
   from_grown : (a : Answer Start) → Grown slots ds (fit_from ns tol slots (under_limit limit) ds a)
   unfolding fit_from
-  from_grown (refusal n) = record { low = omega arith; high = omega (arith, length_ds, fits) }
-  from_grown (result s) = rounds_grown ns tol slots limit s.gap 20 (first_progress s.point ds) (omega (arith, length_ds, fits)) (omega arith)
+  from_grown (Err n) = record { low = omega arith; high = omega (arith, length_ds, fits) }
+  from_grown (Ok s) = rounds_grown ns tol slots limit s.gap 20 (first_progress s.point ds) (omega (arith, length_ds, fits)) (omega arith)
 
   grown : Grown slots ds whole
   grown = from_grown (fit_start ns section_tol ds)

@@ -3,12 +3,12 @@ use mathlib.Core.Path.{◌≡◌, refl, sym, ap, ◌∙◌}
 use mathlib.Core.Bool.{Bool, true, false, cond}
 use mathlib.Core.List.{List, [], ◌∷◌}
 use mathlib.Core.Logic.{⊎_elim}
-use mathlib.Core.Option.{Option, some, none}
+use Rattle.std.specs.Prelude.{Option, Some, None, Ok, Err}
 use Prim.Native.Nat.{ℕ, zero, suc, ◌≤◌}
 use native.Mathlib.Omega.{arith}
 use borrow.Author.Tests.{leb-true, le-leb}
 use lib.Ieee.{Float, le}
-use Rattle.errors.specs.Answer.{Answer, result, refusal, ◌>>=◌}
+use Rattle.errors.specs.Answer.{Answer, ◌>>=◌}
 use Rattle.points.specs.declared.Point2.{Point2}
 use Rattle.runs.specs.Run.{Ending, ended, spent, unfinished, Final, under_limit, whole}
 use Rattle.runs.proofs.LimitLaws.{compared, finishes}
@@ -54,9 +54,9 @@ module _ (limit more : ℕ) (h : limit ≤ more) (ns : List Float) (tol : Float)
     probe-larger : (point : Point2) (cs : List Inscribed) (u : ℕ) (a : Answer (Option Inscribed)) → Unspent (after_probe ns tol slots few gap point cs u a)
         → after_probe ns tol slots many gap point cs u a ≡ after_probe ns tol slots few gap point cs u a
     unfolding after_probe
-    probe-larger point cs u (refusal n) f = refl
-    probe-larger point cs u (result none) f = refl
-    probe-larger point cs u (result (some c)) f =
+    probe-larger point cs u (Err n) f = refl
+    probe-larger point cs u (Ok None) f = refl
+    probe-larger point cs u (Ok (Some c)) f =
         let o : Final State End = refine_run ns tol slots few cs (c ∷ []) u in
         ap (λ (x : Final State End). after_out gap point x) (refine-larger cs (c ∷ []) u (λ e. refined_unspent point (circles_in o.state) o.units o.ending e f))
 
@@ -80,9 +80,9 @@ module _ (limit more : ℕ) (h : limit ≤ more) (ns : List Float) (tol : Float)
     rounds-larger (suc k) p n = go (rounds-larger k) (le p.drift tol) n
       where
         go : ((q : Progress) → ((rounds ns tol slots few gap k q).ending ≡ spent → ⊥) → rounds ns tol slots many gap k q ≡ rounds ns tol slots few gap k q) → (b : Bool)
-            → ((cond b (fit (ended (result p.point)) p.circles p.units) (onward (rounds ns tol slots few gap k) (round ns tol slots few gap p.point p.circles p.units))).ending ≡ spent → ⊥)
-            → cond b (fit (ended (result p.point)) p.circles p.units) (onward (rounds ns tol slots many gap k) (round ns tol slots many gap p.point p.circles p.units))
-            ≡ cond b (fit (ended (result p.point)) p.circles p.units) (onward (rounds ns tol slots few gap k) (round ns tol slots few gap p.point p.circles p.units))
+            → ((cond b (fit (ended (Ok p.point)) p.circles p.units) (onward (rounds ns tol slots few gap k) (round ns tol slots few gap p.point p.circles p.units))).ending ≡ spent → ⊥)
+            → cond b (fit (ended (Ok p.point)) p.circles p.units) (onward (rounds ns tol slots many gap k) (round ns tol slots many gap p.point p.circles p.units))
+            ≡ cond b (fit (ended (Ok p.point)) p.circles p.units) (onward (rounds ns tol slots few gap k) (round ns tol slots few gap p.point p.circles p.units))
         go later true f = refl
         go later false f =
             let is : Round = round ns tol slots few gap p.point p.circles p.units in
@@ -91,8 +91,8 @@ module _ (limit more : ℕ) (h : limit ≤ more) (ns : List Float) (tol : Float)
 
   from_larger : (cs : List Inscribed) (a : Answer Start) → ((fit_from ns tol slots few cs a).ending ≡ spent → ⊥) → fit_from ns tol slots many cs a ≡ fit_from ns tol slots few cs a
   unfolding fit_from
-  from_larger cs (refusal n) f = refl
-  from_larger cs (result s) f = rounds-larger s.gap 20 (first_progress s.point cs) f
+  from_larger cs (Err n) f = refl
+  from_larger cs (Ok s) f = rounds-larger s.gap 20 (first_progress s.point cs) f
 
   fitted-larger : (section_tol : Float) (front : Bool) (old : List Float) (count : ℕ) → ((fitted ns section_tol tol slots few front old count).ending ≡ spent → ⊥)
       → fitted ns section_tol tol slots many front old count ≡ fitted ns section_tol tol slots few front old count
@@ -103,8 +103,8 @@ module _ (limit more : ℕ) (h : limit ≤ more) (ns : List Float) (tol : Float)
 
 fit-larger : (limit more : ℕ) → limit ≤ more → (i : EdgeInput) (a : Answer (Unit {0})) → (called_number (fit_after i (under_limit limit) a) ≡ 14 → ⊥) → fit_after i (under_limit more) a ≡ fit_after i (under_limit limit) a
 unfolding fit_after
-fit-larger limit more h i (refusal r) f = refl
-fit-larger limit more h i (result passed) f =
+fit-larger limit more h i (Err r) f = refl
+fit-larger limit more h i (Ok passed) f =
     ap (λ (x : Report Point2). ran x) (fitted-larger limit more h i.section i.tol (slots i.store) i.section_tol i.at_front i.store i.count (λ e. f (ap ending_number e)))
 
 -- ---- an edge fit ends
@@ -118,21 +118,21 @@ module _ (ns : List Float) (tol : Float) (slots : ℕ) (full : ℕ → Bool) whe
   module _ (gap : Gap) where
     move_ends : (cs : List Inscribed) (u : ℕ) (a : Answer Moved) → Ended (after_move cs u a)
     unfolding after_move
-    move_ends cs u (refusal r) = not-unfinished (refusal r)
-    move_ends cs u (result m) = tt
+    move_ends cs u (Err r) = not-unfinished (Err r)
+    move_ends cs u (Ok m) = tt
 
     refined_ends : (point : Point2) (cs : List Inscribed) (u : ℕ) (e : Ending End) → (e ≡ unfinished → ⊥) → Ended (after_refined gap point cs u e)
     unfolding after_refined
-    refined_ends point cs u (ended (result done)) n = move_ends cs u (moved_point gap point cs)
-    refined_ends point cs u (ended (refusal r)) n = not-unfinished (refusal r)
+    refined_ends point cs u (ended (Ok done)) n = move_ends cs u (moved_point gap point cs)
+    refined_ends point cs u (ended (Err r)) n = not-unfinished (Err r)
     refined_ends point cs u spent n = λ p. let z : ◌≡◌ {A = ℕ} 0 1 = cc in absurd (omega arith)
     refined_ends point cs u unfinished n = λ p. n refl
 
     probe-ends : (point : Point2) (cs : List Inscribed) (u : ℕ) (a : Answer (Option Inscribed)) → Ended (after_probe ns tol slots full gap point cs u a)
     unfolding after_probe
-    probe-ends point cs u (refusal r) = not-unfinished (refusal r)
-    probe-ends point cs u (result none) = not-unfinished (result point)
-    probe-ends point cs u (result (some c)) =
+    probe-ends point cs u (Err r) = not-unfinished (Err r)
+    probe-ends point cs u (Ok None) = not-unfinished (Ok point)
+    probe-ends point cs u (Ok (Some c)) =
         let o : Final State End = refine_run ns tol slots full cs (c ∷ []) u in
         refined_ends point (circles_in o.state) o.units o.ending (finishes (refine_step ns tol slots) (measure slots) (refine_falls ns tol slots) full (refining cs (c ∷ [])) u)
 
@@ -143,23 +143,23 @@ module _ (ns : List Float) (tol : Float) (slots : ℕ) (full : ℕ → Bool) whe
 
     rounds-end : (k : ℕ) (p : Progress) → (rounds ns tol slots full gap k p).ending ≡ unfinished → ⊥
     unfolding rounds round
-    rounds-end zero p = not-unfinished (result p.point)
+    rounds-end zero p = not-unfinished (Ok p.point)
     rounds-end (suc k) p = go (rounds-end k) (le p.drift tol)
       where
         go : ((q : Progress) → (rounds ns tol slots full gap k q).ending ≡ unfinished → ⊥) → (b : Bool)
-            → (cond b (fit (ended (result p.point)) p.circles p.units) (onward (rounds ns tol slots full gap k) (round ns tol slots full gap p.point p.circles p.units))).ending ≡ unfinished → ⊥
-        go later true = not-unfinished (result p.point)
+            → (cond b (fit (ended (Ok p.point)) p.circles p.units) (onward (rounds ns tol slots full gap k) (round ns tol slots full gap p.point p.circles p.units))).ending ≡ unfinished → ⊥
+        go later true = not-unfinished (Ok p.point)
         go later false = onward-ends (rounds ns tol slots full gap k) (round ns tol slots full gap p.point p.circles p.units) (probe-ends p.point p.circles p.units (last_pair p.circles >>= probed ns tol gap)) later
 
   from_ends : (cs : List Inscribed) (a : Answer Start) → (fit_from ns tol slots full cs a).ending ≡ unfinished → ⊥
   unfolding fit_from
-  from_ends cs (refusal r) = not-unfinished (refusal r)
-  from_ends cs (result s) = rounds-end s.gap most_rounds (first_progress s.point cs)
+  from_ends cs (Err r) = not-unfinished (Err r)
+  from_ends cs (Ok s) = rounds-end s.gap most_rounds (first_progress s.point cs)
 
 fit-ends : (i : EdgeInput) (full : ℕ → Bool) (a : Answer (Unit {0})) → Ends (fit_after i full a)
 unfolding fit_after fitted fit_reported
-fit-ends i full (refusal r) = tt
-fit-ends i full (result passed) =
+fit-ends i full (Err r) = tt
+fit-ends i full (Ok passed) =
     let cs : List Inscribed = end_last i.at_front (circles_of i.store i.count) in
     from_ends i.section i.tol (slots i.store) full cs (fit_start i.section i.section_tol cs)
 

@@ -1,7 +1,7 @@
 -- `is_open_at_end` and `fit_open_edge`, by count, units and the whole store. Assumes nothing.
-use Rattle.std.specs.Prelude.{Bool, false, cond, List, reverse, ℕ, ◌-◌, length, Float}
+use Rattle.std.specs.Prelude.{Bool, false, cond, List, reverse, ℕ, ◌-◌, length, Float, Ok, Err}
 use Rattle.std.specs.Float.Ieee.{lt}
-use Rattle.errors.specs.Answer.{Answer, result, refusal, ◌>>=◌}
+use Rattle.errors.specs.Answer.{Answer, ◌>>=◌}
 use Rattle.points.specs.Numbers.{f0}
 use Rattle.points.specs.declared.Point2.{Point2}
 use Rattle.line2.specs.Lines.{line_projection}
@@ -17,7 +17,6 @@ use Rattle.lists.specs.declared.ends.Pair.{Pair}
 use Rattle.gap.specs.Gap.{gap_of, cap_intersection}
 use Rattle.gap.specs.Rounds.{Fit, fit, most_rounds, first_progress, rounds, listed_edge_end}
 use Rattle.gap.specs.declared.EdgeFit.{EdgeFit}
-use Rattle.edges.specs.declared.FitAnswer.{FitAnswer}
 use Rattle.edges.specs.declared.fitting.Start.{Start}
 
 -- what is handed in: a section with its tolerance, a general tolerance, a store with its stated count, and which end is meant
@@ -45,8 +44,8 @@ end_last at_front cs = cond at_front (reverse cs) cs
 unfoldable pub beyond_line : List Float → Line2 → Answer Bool
 beyond_line ns clip =
     line_projection clip (point_at ns 0) >>= λ a.
-    let both = line_projection clip (point_at ns (length ns - 2)) >>= λ b. result (lt f0 b) in
-    cond (lt f0 a) both (result false)
+    let both = line_projection clip (point_at ns (length ns - 2)) >>= λ b. Ok (lt f0 b) in
+    cond (lt f0 a) both (Ok false)
 
 unfoldable pub ends_beyond : List Float → List Inscribed → Answer Bool
 unfolding beyond_line
@@ -57,7 +56,7 @@ unfoldable pub open_at_end : EdgeInput → Answer Bool
 unfolding ends_beyond
 open_at_end i =
     edge_entry i false >>= λ passed.
-    cond (is_closed i.section i.section_tol) (result false) (ends_beyond i.section (end_last i.at_front (circles_of i.store i.count)))
+    cond (is_closed i.section i.section_tol) (Ok false) (ends_beyond i.section (end_last i.at_front (circles_of i.store i.count)))
 
 -- ---- `fit_open_edge`
 
@@ -67,15 +66,15 @@ start_at_end ns section_tol end =
     clip_line end >>= λ clip.
     gap_of ns section_tol >>= λ gap.
     cap_intersection end gap >>= λ point.
-    result (record { gap = gap; point = point })
+    Ok (record { gap = gap; point = point })
 
 unfoldable pub fit_start : List Float → Float → List Inscribed → Answer Start
 unfolding start_at_end
 fit_start ns section_tol cs = last_pair cs >>= start_at_end ns section_tol
 
 unfoldable pub fit_from : List Float → Float → ℕ → (ℕ → Bool) → List Inscribed → Answer Start → Fit
-fit_from ns tol slots full cs (refusal r) = fit (ended (refusal r)) cs 0
-fit_from ns tol slots full cs (result s) = rounds ns tol slots full s.gap most_rounds (first_progress s.point cs)
+fit_from ns tol slots full cs (Err r) = fit (ended (Err r)) cs 0
+fit_from ns tol slots full cs (Ok s) = rounds ns tol slots full s.gap most_rounds (first_progress s.point cs)
 
 -- "and turned back at every ending"; "later slots untouched"
 unfoldable pub fit_reported : Bool → List Float → Fit → Report Point2
@@ -90,8 +89,8 @@ fitted ns section_tol tol slots full at_front old count =
 
 unfoldable pub fit_after : EdgeInput → (ℕ → Bool) → Answer (Unit {0}) → Called Point2
 unfolding fitted
-fit_after i full (refusal r) = refused_on_entry r i.store
-fit_after i full (result passed) = ran (fitted i.section i.section_tol i.tol (slots i.store) full i.at_front i.store i.count)
+fit_after i full (Err r) = refused_on_entry r i.store
+fit_after i full (Ok passed) = ran (fitted i.section i.section_tol i.tol (slots i.store) full i.at_front i.store i.count)
 
 abbrev pub fit_of : EdgeInput → ℕ → Called Point2
 fit_of i limit = fit_after i (under_limit limit) (edge_entry i (finer_general i.section_tol i.tol))
@@ -101,6 +100,6 @@ fit_of i limit = fit_after i (under_limit limit) (edge_entry i (finer_general i.
 abbrev pub listed_fit : EdgeFit → List Float → Report Point2
 listed_fit r store = record { ending = listed_edge_end r.end; count = r.count; units = r.units; store = store }
 
-abbrev pub listed_fit_call : FitAnswer → List Float → Called Point2
-listed_fit_call (FitAnswer.Ran r) store = ran (listed_fit r store)
-listed_fit_call (FitAnswer.Refused r) store = refused_on_entry r store
+abbrev pub listed_fit_call : Answer EdgeFit → List Float → Called Point2
+listed_fit_call (Ok r) store = ran (listed_fit r store)
+listed_fit_call (Err r) store = refused_on_entry r store

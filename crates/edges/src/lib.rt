@@ -4,74 +4,53 @@
 mod fitting;
 mod open_end;
 
+ghost use Rattle.curve2.specs.Lent.{IsLent};
+ghost use Rattle.errors.specs.Answer.{passed};
 ghost use Rattle.std.specs.Prelude.{◌≡◌, List, Float};
-ghost use Rattle.curve2.specs.Entry.{listed_entry};
-ghost use Rattle.sections.specs.Asked.{listed_bool};
-ghost use Rattle.refine.specs.Report.{ending_number, called_number};
-ghost use Rattle.gap.specs.Rounds.{listed_edge_end};
+ghost use Rattle.refine.specs.Report.{called_number};
 ghost use Rattle.edges.specs.Edges.{edge_entry, open_at_end, fit_of, listed_fit_call};
 
-use curve2::{AlsoBad, Entry, entering};
+use curve2::checked::Curve2;
+use curve2::{AlsoBad, entering};
 use errors::Refusal;
-use gap::{EdgeEnd, EdgeFit};
-use sections::BoolAnswer;
-
-// What a call of a fit returns: refused on entry, the number alone; else what the fit returns.
-#[derive(Clone, Copy)]
-pub enum FitAnswer {
-    Ran(EdgeFit),
-    Refused(Refusal),
-}
-
-// The number of an ending: 0 for an edge point, 14 for a spent fit.
-fn end_number(end: EdgeEnd) -> u32
-    ensures { result ≡ ending_number (listed_edge_end end) }
-{
-    match end {
-        EdgeEnd::Fitted(_) => 0,
-        EdgeEnd::Spent => 14,
-        EdgeEnd::Refused(r) => errors::number(r),
-    }
-}
+use gap::EdgeFit;
+use inscribed::checked::CirclesInUse;
 
 // The number of what a fit's call returns: 0 for an edge point.
-pub fn number(answer: FitAnswer) -> u32
+pub fn number(answer: Result<EdgeFit, Refusal>) -> u32
     ensures { (store : List Float) → result ≡ called_number (listed_fit_call answer store) }
 {
     match answer {
-        FitAnswer::Ran(fit) => {
-            let end = fit.end;
-            end_number(end)
-        }
-        FitAnswer::Refused(r) => errors::number(r),
+        Ok(fit) => u32::from(fit.end),
+        Err(r) => u32::from(r),
     }
 }
 
 // The entry tests of an edge, with whether the general tolerance is finer than the section's: `is_open_at_end` isn't held to that.
-fn entered(
-    section: &[f64],
+#[tactic(auto, unfolding(crate::specs::Edges::edge_entry))]
+fn entered<'a>(
+    section: &'a [f64],
     section_tol: f64,
     tol: f64,
     store: &[f64],
     count: usize,
     at_front: bool,
     finer: bool,
-) -> Entry
-    ensures { listed_entry result ≡ edge_entry (record { section = section.now; section_tol = section_tol; tol = tol; store = store.now; count = count; at_front = at_front }) finer }
+) -> Result<Curve2<'a>, Refusal>
+    ensures entry { passed result ≡ edge_entry (record { section = section.now; section_tol = section_tol; tol = tol; store = store.now; count = count; at_front = at_front }) finer }
+    ensures lent { IsLent section.now section_tol result }
 {
-    let number = inscribed::store::has_bad_circle(store, count);
-    let tolerance = entering::is_bad_general(tol);
-    let room = inscribed::store::is_bad_store_count(store, count);
     let also = AlsoBad {
-        number,
-        tolerance,
+        number: inscribed::store::has_bad_circle(store, count),
+        tolerance: entering::is_bad_general(tol),
         finer,
-        room,
+        room: inscribed::store::is_bad_store_count(store, count),
     };
     entering::section_entry(section, section_tol, also)
 }
 
 // The open edge of a section at one end of its circles, within a limit of units.
+#[tactic(auto, unfolding(crate::specs::Edges::fit_after))]
 pub fn fit_open_edge(
     section: &[f64],
     section_tol: f64,
@@ -80,30 +59,17 @@ pub fn fit_open_edge(
     count: usize,
     at_front: bool,
     limit: u32,
-) -> FitAnswer
+) -> Result<EdgeFit, Refusal>
     ensures { listed_fit_call result store.new ≡ fit_of (record { section = section.now; section_tol = section_tol; tol = tol; store = store.old; count = count; at_front = at_front }) limit }
 {
     let finer = entering::is_finer_general(section_tol, tol);
-    match entered(section, section_tol, tol, store, count, at_front, finer) {
-        Entry::Passed => {
-            let slots = inscribed::store::slots_in(store.len());
-            let fit = fitting::fit(
-                section,
-                section_tol,
-                tol,
-                store,
-                slots,
-                count,
-                at_front,
-                limit,
-            );
-            FitAnswer::Ran(fit)
-        }
-        Entry::Refused(r) => FitAnswer::Refused(r),
-    }
+    let curve = entered(section, section_tol, tol, store, count, at_front, finer)?;
+    let slots = inscribed::store::slots_in(store.len());
+    Ok(fitting::fit(&curve, tol, store, slots, count, at_front, limit))
 }
 
 // Whether the section is open at one end of its circles: no for a closed section, before the circles are counted.
+#[tactic(auto, unfolding(crate::specs::Edges::open_at_end))]
 pub fn is_open_at_end(
     section: &[f64],
     section_tol: f64,
@@ -111,16 +77,12 @@ pub fn is_open_at_end(
     store: &[f64],
     count: usize,
     at_front: bool,
-) -> BoolAnswer
-    ensures { listed_bool result ≡ open_at_end (record { section = section.now; section_tol = section_tol; tol = tol; store = store.now; count = count; at_front = at_front }) }
+) -> Result<bool, Refusal>
+    ensures { result ≡ open_at_end (record { section = section.now; section_tol = section_tol; tol = tol; store = store.now; count = count; at_front = at_front }) }
 {
-    match entered(section, section_tol, tol, store, count, at_front, false) {
-        Entry::Passed => {
-            if curve2::checked::is_closed(section, section_tol) {
-                return BoolAnswer::Value(false);
-            }
-            open_end::is_beyond_end(section, store, count, at_front)
-        }
-        Entry::Refused(r) => BoolAnswer::Refused(r),
+    let curve = entered(section, section_tol, tol, store, count, at_front, false)?;
+    if curve.is_closed() {
+        return Ok(false);
     }
+    open_end::is_beyond_end(&curve, &CirclesInUse { store, count }, at_front)
 }

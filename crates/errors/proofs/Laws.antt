@@ -1,7 +1,8 @@
 -- What a call's `ensures` and the test of its result say together, steps in a row, and two numbers that no refusal has. Assumes nothing.
 use mathlib.Core.Path.{◌≡◌, refl, sym, ◌∙◌}
 use native.Mathlib.Omega.{arith}
-use Rattle.errors.specs.Answer.{Answer, result, refusal, ◌>>=◌, number_of}
+use Rattle.std.specs.Prelude.{Ok, Err, IsErrAnd}
+use Rattle.errors.specs.Answer.{Answer, ◌>>=◌, number_of}
 use Rattle.errors.specs.declared.Refusal.{Refusal}
 use Rattle.errors.specs.declared.Refusal.TheVariants.{PointCount, BadNumber, Tolerance, NoRoom, TooFewKept, NotSpaced, TooFewCircles, NoCrossing, OffCurve, TooLong, ZeroLength, NotFinite, NoAdvance, StoreFull, StackFull, ClosedSection, GapBehind, GapParallel, GapMissed, EmptyStretch, WrongKind, FinerThanSection, ByteCount}
 
@@ -9,10 +10,15 @@ use Rattle.errors.specs.declared.Refusal.TheVariants.{PointCount, BadNumber, Tol
 pub told : {A : Type 0} {r d t : A} → r ≡ d → r ≡ t → d ≡ t
 told p q = sym p ∙ q
 
+-- r is what a `?` returns, e the refusal that it found
+pub handed_on : {A : Type 0} (r : Answer A) (e : Refusal) → IsErrAnd r (λ x. x ≡ e) → r ≡ Err e
+handed_on (Ok a) e p = absurd p
+handed_on (Err x) e p = rw p
+
 -- steps in a row, grouped either way
 pub bind_assoc : {A B C : Type 0} (a : Answer A) (f : A → Answer B) (g : B → Answer C) → ((a >>= f) >>= g) ≡ (a >>= λ x. f x >>= g)
-bind_assoc (result x) f g = refl
-bind_assoc (refusal n) f g = refl
+bind_assoc (Ok x) f g = refl
+bind_assoc (Err n) f g = refl
 
 -- ---- no refusal has the number of a result, nor that of a spent run
 

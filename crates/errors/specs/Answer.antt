@@ -1,24 +1,29 @@
--- The answer of a step: its result, or a refusal, each with document 01's or 02's number. Steps are joined by `◌>>=◌`: the first refusal is the answer of the whole.
+-- The answer of a step: `Ok` of its result, or `Err` of a refusal, each with document 01's or 02's number. Steps are joined by `◌>>=◌`: the first refusal is the answer of the whole.
 -- Assumes nothing.
-use Rattle.std.specs.Prelude.{ℕ, cond, Float}
+use Rattle.std.specs.Prelude.{ℕ, Bool, cond, Float, Result, Ok, Err}
 use Rattle.std.specs.Float.Ieee.Scale.{finite}
 use Rattle.errors.specs.declared.Refusal.{Refusal}
-use Rattle.errors.specs.declared.ScalarAnswer.{ScalarAnswer}
-use Rattle.errors.specs.declared.ScalarAnswer.TheVariants.{Value, Refused}
 use Rattle.errors.specs.declared.Refusal.TheVariants.{PointCount, BadNumber, Tolerance, NoRoom, TooFewKept, NotSpaced, TooFewCircles, NoCrossing, OffCurve, TooLong, ZeroLength, NotFinite, NoAdvance, StoreFull, StackFull, ClosedSection, GapBehind, GapParallel, GapMissed, EmptyStretch, WrongKind, FinerThanSection, ByteCount}
 
-pub data Answer (A : Type 0) : Type 0 where
-  result : A → Answer A
-  refusal : Refusal → Answer A
+abbrev pub Answer : Type 0 → Type 0
+Answer A = Result A Refusal
 
 infixl 10 ◌>>=◌
 abbrev pub ◌>>=◌ : {A B : Type 0} → Answer A → (A → Answer B) → Answer B
-result a >>= f = f a
-refusal r >>= f = refusal r
+Ok a >>= f = f a
+Err r >>= f = Err r
 
--- 12: "a watched value is infinite or NaN"
+-- whether a step passed, whatever its result
+abbrev pub passed : {A : Type 0} → Answer A → Answer (Unit {0})
+passed (Ok a) = Ok tt
+passed (Err r) = Err r
+
+-- 12: "a watched value is infinite or NaN"; f tells whether none of its numbers is
+abbrev pub watched_as : {A : Type 0} → (A → Bool) → A → Answer A
+watched_as f x = cond (f x) (Ok x) (Err NotFinite)
+
 abbrev pub watched : Float → Answer Float
-watched x = cond (finite x) (result x) (refusal NotFinite)
+watched x = watched_as finite x
 
 -- ---- the numbers
 
@@ -50,11 +55,5 @@ number_of ByteCount = 26
 
 -- the number of an answer: 0 for a result
 abbrev pub number : {A : Type 0} → Answer A → ℕ
-number (result a) = 0
-number (refusal r) = number_of r
-
--- ---- an answer that is a number
-
-abbrev pub listed_scalar : ScalarAnswer → Answer Float
-listed_scalar (Value x) = result x
-listed_scalar (Refused r) = refusal r
+number (Ok a) = 0
+number (Err r) = number_of r

@@ -1,10 +1,10 @@
 // The numbered refusals, the test that every watched value goes through, and the test of a sign.
 #![tactic(auto)]
 
-ghost use Rattle.std.specs.Prelude.{◌≡◌};
+ghost use Rattle.std.specs.Prelude.{◌≡◌, Bool};
 ghost use Rattle.std.specs.Float.Ieee.Scale.{finite};
 ghost use Rattle.errors.specs.Numbers.{is_plus};
-ghost use Rattle.errors.specs.Answer.{watched, number_of, listed_scalar};
+ghost use Rattle.errors.specs.Answer.{watched_as, number_of};
 
 // Why no result is returned. The comment at each case is its number and meaning; `number_of` in specs/ lists the numbers. 14, spent, is an ending of runs alone and no refusal.
 #[derive(Clone, Copy)]
@@ -57,68 +57,70 @@ pub enum Refusal {
     ByteCount,
 }
 
-// A number, or why there is none.
-#[derive(Clone, Copy)]
-pub enum ScalarAnswer {
-    Value(f64),
-    Refused(Refusal),
-}
-
 // The refusal's number.
-pub fn number(refusal: Refusal) -> u32
-    ensures { result ≡ number_of refusal }
-{
-    match refusal {
-        Refusal::PointCount => 1,
-        Refusal::BadNumber => 2,
-        Refusal::Tolerance => 3,
-        Refusal::NoRoom => 4,
-        Refusal::TooFewKept => 5,
-        Refusal::NotSpaced => 6,
-        Refusal::TooFewCircles => 7,
-        Refusal::NoCrossing => 8,
-        Refusal::OffCurve => 9,
-        Refusal::TooLong => 10,
-        Refusal::ZeroLength => 11,
-        Refusal::NotFinite => 12,
-        Refusal::NoAdvance => 13,
-        Refusal::StoreFull => 15,
-        Refusal::StackFull => 16,
-        Refusal::ClosedSection => 17,
-        Refusal::GapBehind => 18,
-        Refusal::GapParallel => 19,
-        Refusal::GapMissed => 20,
-        Refusal::EmptyStretch => 21,
-        Refusal::WrongKind => 22,
-        Refusal::FinerThanSection => 23,
-        Refusal::ByteCount => 26,
-    }
-}
+impl From<Refusal> for u32 {
+    ghost from_gives = { λ refusal n. n ≡ number_of refusal };
 
-// Whether a number is neither infinite nor NaN.
-pub fn is_finite(x: f64) -> bool
-    ensures { result ≡ finite x }
-{
-    let top = 1.0 / 0.0;
-    if -top < x { x < top } else { false }
+    fn from(refusal: Refusal) -> u32 {
+        match refusal {
+            Refusal::PointCount => 1,
+            Refusal::BadNumber => 2,
+            Refusal::Tolerance => 3,
+            Refusal::NoRoom => 4,
+            Refusal::TooFewKept => 5,
+            Refusal::NotSpaced => 6,
+            Refusal::TooFewCircles => 7,
+            Refusal::NoCrossing => 8,
+            Refusal::OffCurve => 9,
+            Refusal::TooLong => 10,
+            Refusal::ZeroLength => 11,
+            Refusal::NotFinite => 12,
+            Refusal::NoAdvance => 13,
+            Refusal::StoreFull => 15,
+            Refusal::StackFull => 16,
+            Refusal::ClosedSection => 17,
+            Refusal::GapBehind => 18,
+            Refusal::GapParallel => 19,
+            Refusal::GapMissed => 20,
+            Refusal::EmptyStretch => 21,
+            Refusal::WrongKind => 22,
+            Refusal::FinerThanSection => 23,
+            Refusal::ByteCount => 26,
+        }
+    }
 }
 
 // Whether the sign bit is clear: one over a zero is an infinity with its sign.
 pub fn is_plus(x: f64) -> bool
     ensures { result ≡ is_plus x }
 {
-    if x == 0.0 {
-        return 0.0 < 1.0 / x;
-    }
-    !(x < 0.0)
+    x.is_nan() || x.is_sign_positive()
 }
 
-// A value that is watched: 12 where it is infinite or NaN.
-pub fn watch(x: f64) -> ScalarAnswer
-    ensures { listed_scalar result ≡ watched x }
-{
-    if is_finite(x) {
-        return ScalarAnswer::Value(x);
+// A value of one number or more, which steps can watch.
+pub trait Finite: Copy {
+    // Whether none of its numbers is infinite or NaN.
+    ghost finite: { Self → Bool };
+
+    fn all_finite(self) -> bool
+        ensures { result ≡ finite self };
+}
+
+impl Finite for f64 {
+    ghost finite = { finite };
+
+    fn all_finite(self) -> bool {
+        self.is_finite()
     }
-    ScalarAnswer::Refused(Refusal::NotFinite)
+}
+
+// A value that is watched: 12 where a number of it is infinite or NaN.
+pub fn watch<T: Finite>(x: T) -> Result<T, Refusal>
+    ensures { result ≡ watched_as T.finite x }
+{
+    if x.all_finite() {
+        Ok(x)
+    } else {
+        Err(Refusal::NotFinite)
+    }
 }

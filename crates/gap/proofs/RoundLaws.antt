@@ -2,13 +2,13 @@
 use mathlib.Core.Path.{◌≡◌, refl, sym, ap, ◌∙◌}
 use mathlib.Core.Bool.{Bool}
 use mathlib.Core.List.{List, [], ◌∷◌, ◌++◌, append-nil}
-use mathlib.Core.Option.{Option, some, none}
+use Rattle.std.specs.Prelude.{Option, Some, None, Ok, Err}
 use Prim.Native.Nat.{ℕ, ◌*◌, ◌≤◌}
 use native.Mathlib.Omega.{arith}
 use lib.ListN.{length, length-append}
 use lib.Ieee.{Float}
 use Rattle.errors.specs.declared.Refusal.{Refusal}
-use Rattle.errors.specs.Answer.{Answer, result, refusal, ◌>>=◌}
+use Rattle.errors.specs.Answer.{Answer, ◌>>=◌}
 use Rattle.points.specs.declared.Point2.{Point2}
 use Rattle.runs.specs.Run.{Ending, ended, spent, unfinished, Final, under_limit}
 use Rattle.inscribed.specs.Store.{width, circles_of, stored}
@@ -32,23 +32,23 @@ use Rattle.gap.specs.Code.{fit_in, round_in, round_circles, round_units, Rounded
 
 after_circles : (gap : Gap) (point : Point2) (cs : List Inscribed) (u : ℕ) (e : Ending End) → round_circles (after_refined gap point cs u e) ≡ cs
 unfolding after_refined after_move
-after_circles gap point cs u (ended (result done)) = go (moved_point gap point cs)
+after_circles gap point cs u (ended (Ok done)) = go (moved_point gap point cs)
   where
     go : (a : Answer Moved) → round_circles (after_move cs u a) ≡ cs
-    go (result m) = refl
-    go (refusal n) = refl
-after_circles gap point cs u (ended (refusal n)) = refl
+    go (Ok m) = refl
+    go (Err n) = refl
+after_circles gap point cs u (ended (Err n)) = refl
 after_circles gap point cs u spent = refl
 after_circles gap point cs u unfinished = refl
 
 after_units : (gap : Gap) (point : Point2) (cs : List Inscribed) (u : ℕ) (e : Ending End) → round_units (after_refined gap point cs u e) ≡ u
 unfolding after_refined after_move
-after_units gap point cs u (ended (result done)) = go (moved_point gap point cs)
+after_units gap point cs u (ended (Ok done)) = go (moved_point gap point cs)
   where
     go : (a : Answer Moved) → round_units (after_move cs u a) ≡ u
-    go (result m) = refl
-    go (refusal n) = refl
-after_units gap point cs u (ended (refusal n)) = refl
+    go (Ok m) = refl
+    go (Err n) = refl
+after_units gap point cs u (ended (Err n)) = refl
 after_units gap point cs u spent = refl
 after_units gap point cs u unfinished = refl
 
@@ -80,9 +80,9 @@ module _ (ns : List Float) (tol : Float) (slots limit : ℕ) (gap : Gap) where
 
     kept_after_lem : (a : Answer (Option Inscribed)) → Kept cs (after_probe ns tol slots full gap point cs u a)
     unfolding after_probe
-    kept_after_lem (refusal n) = record { more = []; grown = sym (append-nil cs); fits = h; within = w }
-    kept_after_lem (result none) = record { more = []; grown = sym (append-nil cs); fits = h; within = w }
-    kept_after_lem (result (some c)) = kept_out c
+    kept_after_lem (Err n) = record { more = []; grown = sym (append-nil cs); fits = h; within = w }
+    kept_after_lem (Ok None) = record { more = []; grown = sym (append-nil cs); fits = h; within = w }
+    kept_after_lem (Ok (Some c)) = kept_out c
 
     pub round-kept : Kept cs (round ns tol slots full gap point cs u)
     unfolding round
@@ -90,7 +90,7 @@ module _ (ns : List Float) (tol : Float) (slots limit : ℕ) (gap : Gap) where
 
   -- ---- the code of one round
 
-  module _ (point : Point2) (store : List Float) (n u : ℕ) (end : Pair) (is-end : last_pair (circles_of store n) ≡ result end) where
+  module _ (point : Point2) (store : List Float) (n u : ℕ) (end : Pair) (is-end : last_pair (circles_of store n) ≡ Ok end) where
     abbrev cs : List Inscribed
     cs = circles_of store n
 
@@ -98,17 +98,17 @@ module _ (ns : List Float) (tol : Float) (slots limit : ℕ) (gap : Gap) where
     unfolding round
     probed_as a p = rw (is-end, p)
 
-    pub round-refused : n * width ≤ length store → (k : Refusal) (r : EdgeFit) → refusal k ≡ probed ns tol gap end → fit_in store r ≡ fit (ended (refusal k)) cs u → Rounded (round ns tol slots full gap point cs u) store store (RoundEnd.Over r)
+    pub round-refused : n * width ≤ length store → (k : Refusal) (r : EdgeFit) → Err k ≡ probed ns tol gap end → fit_in store r ≡ fit (ended (Err k)) cs u → Rounded (round ns tol slots full gap point cs u) store store (RoundEnd.Over r)
     unfolding after_probe
     round-refused h k r p e =
-        rw (← probed_as (refusal k) p) (record { returned = ap stops e; left = sym (stored-again store n (omega arith)) })
+        rw (← probed_as (Err k) p) (record { returned = ap stops e; left = sym (stored-again store n (omega arith)) })
 
-    pub round_missed : n * width ≤ length store → (r : EdgeFit) → result none ≡ probed ns tol gap end → fit_in store r ≡ fit (ended (result point)) cs u → Rounded (round ns tol slots full gap point cs u) store store (RoundEnd.Over r)
+    pub round_missed : n * width ≤ length store → (r : EdgeFit) → Ok None ≡ probed ns tol gap end → fit_in store r ≡ fit (ended (Ok point)) cs u → Rounded (round ns tol slots full gap point cs u) store store (RoundEnd.Over r)
     unfolding after_probe
     round_missed h r p e =
-        rw (← probed_as (result none) p) (record { returned = ap stops e; left = sym (stored-again store n (omega arith)) })
+        rw (← probed_as (Ok None) p) (record { returned = ap stops e; left = sym (stored-again store n (omega arith)) })
 
-    module _ (fits : n ≤ slots) (within : u ≤ limit) (c : Inscribed) (p : result (some c) ≡ probed ns tol gap end) (ran : Run) (after : List Float)
+    module _ (fits : n ≤ slots) (within : u ≤ limit) (c : Inscribed) (p : Ok (Some c) ≡ probed ns tol gap end) (ran : Run) (after : List Float)
         (is : listed_run ran after ≡ reported store (refine_run ns tol slots full cs (c ∷ []) u)) where
       abbrev refined : Final State End
       refined = refine_run ns tol slots full cs (c ∷ []) u
@@ -149,7 +149,7 @@ module _ (ns : List Float) (tol : Float) (slots limit : ℕ) (gap : Gap) where
       pub round_refined : (r : RoundEnd) → round_in after r ≡ after_refined gap point (circles_of after ran.count) ran.units (listed_end ran.end) → Rounded (round ns tol slots full gap point cs u) store after r
       unfolding after_probe
       round_refined r e =
-          rw (← probed_as (result (some c)) p)
+          rw (← probed_as (Ok (Some c)) p)
           (record {
             returned = e ∙ rw (held, units_is, ending_is);
             left = store_is ∙ ap (λ (x : List Inscribed). stored x store) (sym (after_circles gap point ds refined.units refined.ending));

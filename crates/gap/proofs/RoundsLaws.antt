@@ -6,7 +6,7 @@ use Prim.Native.Nat.{ℕ, zero, suc, ◌≤◌}
 use native.Mathlib.Omega.{arith}
 use lib.ListN.{length, length-append}
 use lib.Ieee.{Float, le}
-use Rattle.errors.specs.Answer.{result}
+use Rattle.std.specs.Prelude.{Ok}
 use Rattle.points.specs.declared.Point2.{Point2}
 use Rattle.runs.specs.Run.{ended, under_limit}
 use Rattle.inscribed.specs.Store.{circles_of, stored}
@@ -47,16 +47,16 @@ module _ (ns : List Float) (tol : Float) (slots limit : ℕ) (gap : Gap) where
       now_at = progress point drift held_now u
 
       -- the fit ends with the point
-      pub ends_here : fit (ended (result point)) held_now u ≡ rounds ns tol slots full gap k now_at → (r : EdgeFit) → fit_in store r ≡ fit (ended (result point)) held_now u → Fits whole old store r
+      pub ends_here : fit (ended (Ok point)) held_now u ≡ rounds ns tol slots full gap k now_at → (r : EdgeFit) → fit_in store r ≡ fit (ended (Ok point)) held_now u → Fits whole old store r
       ends_here e r f =
-          let g : fit (ended (result point)) held_now u ≡ whole = e ∙ l.left in
+          let g : fit (ended (Ok point)) held_now u ≡ whole = e ∙ l.left in
           record { returned = f ∙ g; left = l.holds ∙ ap (λ (x : Fit). stored x.circles old) g }
 
-      pub no_more : k ≡ 0 → fit (ended (result point)) held_now u ≡ rounds ns tol slots full gap k now_at
+      pub no_more : k ≡ 0 → fit (ended (Ok point)) held_now u ≡ rounds ns tol slots full gap k now_at
       unfolding rounds
       no_more e = rw e
 
-      pub still : (j : ℕ) → k ≡ suc j → le drift tol ≡ true → fit (ended (result point)) held_now u ≡ rounds ns tol slots full gap k now_at
+      pub still : (j : ℕ) → k ≡ suc j → le drift tol ≡ true → fit (ended (Ok point)) held_now u ≡ rounds ns tol slots full gap k now_at
       unfolding rounds
       still j e t = rw (e, t)
 
@@ -118,6 +118,6 @@ module _ (ns : List Float) (tol : Float) (slots limit : ℕ) (gap : Gap) where
   rounds_grown (suc k) p h w = go (rounds_grown k) (le p.drift tol)
     where
       go : ((q : Progress) → length q.circles ≤ slots → q.units ≤ limit → Grown slots q.circles (rounds ns tol slots full gap k q)) → (b : Bool)
-          → Grown slots p.circles (cond b (fit (ended (result p.point)) p.circles p.units) (onward (rounds ns tol slots full gap k) (round ns tol slots full gap p.point p.circles p.units)))
+          → Grown slots p.circles (cond b (fit (ended (Ok p.point)) p.circles p.units) (onward (rounds ns tol slots full gap k) (round ns tol slots full gap p.point p.circles p.units)))
       go later true = record { low = omega arith; high = h }
       go later false = onward_grown p.circles (rounds ns tol slots full gap k) (round ns tol slots full gap p.point p.circles p.units) (round-kept ns tol slots limit gap p.point p.circles p.units h w) later

@@ -1,19 +1,11 @@
 -- What the code of one round returns and leaves. It is the code's own: `rounds` doesn't rest on it. Assumes nothing.
 use Rattle.std.specs.Prelude.{◌≡◌, List, ℕ, Float}
-use Rattle.errors.specs.Answer.{Answer, result, refusal}
 use Rattle.inscribed.specs.Store.{circles_of, stored}
 use Rattle.inscribed.specs.declared.Inscribed.{Inscribed}
-use Rattle.gap.specs.declared.round.Moved.{Moved}
-use Rattle.gap.specs.declared.round.MovedAnswer.{MovedAnswer}
 use Rattle.gap.specs.declared.round.Reached.{Reached}
 use Rattle.gap.specs.declared.round.RoundEnd.{RoundEnd}
 use Rattle.gap.specs.declared.EdgeFit.{EdgeFit}
 use Rattle.gap.specs.Rounds.{Fit, fit, listed_edge_end, Progress, progress, Round, stops, goes}
-
--- the point of a round
-abbrev pub listed_moved : MovedAnswer → Answer Moved
-listed_moved (MovedAnswer.Value m) = result m
-listed_moved (MovedAnswer.Refused r) = refusal r
 
 -- a fit whose circles stand in a store
 abbrev pub fit_in : List Float → EdgeFit → Fit

@@ -1,8 +1,7 @@
 -- The probe into the gap of an open section: a line halfway to the nearer end of the gap, and the circle on it. Assumes nothing.
-use Rattle.std.specs.Prelude.{cond, List, Float}
-use Rattle.std.proofs.Math.Option.{Option}
+use Rattle.std.specs.Prelude.{cond, List, Float, Option, Ok, Err}
 use Rattle.std.specs.Float.Ieee.{lt}
-use Rattle.errors.specs.Answer.{Answer, result, refusal, ◌>>=◌}
+use Rattle.errors.specs.Answer.{Answer, ◌>>=◌}
 use Rattle.points.specs.Numbers.{◌*f◌, f0, f½}
 use Rattle.points.specs.Points.{dot_of}
 use Rattle.points.specs.declared.AngleDir.TheVariants.{Ccw}
@@ -26,11 +25,11 @@ unfoldable pub ahead_of : SurfacePoint2 → Gap → Answer Float
 ahead_of ray gap =
     ray_projection ray gap.a >>= λ a.
     ray_projection ray gap.b >>= λ b.
-    cond (lt (lesser a b) f0) (refusal GapBehind) (result (lesser a b))
+    cond (lt (lesser a b) f0) (Err GapBehind) (Ok (lesser a b))
 
 -- the line across the ray, turned to the stack's contact direction
 unfoldable pub turned_to : Inscribed → Line2 → Answer Line2
-turned_to last probe = dot_of probe.direction (contact_dir last) >>= λ product. result (cond (lt product f0) (reversed_line probe) probe)
+turned_to last probe = dot_of probe.direction (contact_dir last) >>= λ product. Ok (cond (lt product f0) (reversed_line probe) probe)
 
 -- moved halfway to the nearer end
 unfoldable pub across_ray : SurfacePoint2 → Float → Inscribed → Answer Line2

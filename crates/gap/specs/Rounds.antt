@@ -1,9 +1,8 @@
 -- The rounds of `fit_open_edge`: each probes halfway into the gap, refines up to the probe's circle, and draws the camber line on again. Assumes nothing.
-use Rattle.std.specs.Prelude.{Bool, false, cond, List, [], ◌∷◌, ℕ, zero, suc, Float}
-use Rattle.std.proofs.Math.Option.{Option, some, none}
+use Rattle.std.specs.Prelude.{Bool, false, cond, List, [], ◌∷◌, ℕ, zero, suc, Float, Option, Some, None, Ok, Err}
 use Rattle.std.specs.Float.{inf}
 use Rattle.std.specs.Float.Ieee.{le}
-use Rattle.errors.specs.Answer.{Answer, result, refusal, ◌>>=◌}
+use Rattle.errors.specs.Answer.{Answer, ◌>>=◌}
 use Rattle.points.specs.Points.{dist_of}
 use Rattle.points.specs.declared.Point2.{Point2}
 use Rattle.runs.specs.Run.{Ending, ended, spent, unfinished, Final}
@@ -50,17 +49,17 @@ moved_point gap point cs =
     last_pair cs >>= λ end.
     cap_intersection end gap >>= λ next.
     dist_of point next >>= λ drift.
-    result (record { point = next; drift = drift })
+    Ok (record { point = next; drift = drift })
 
 unfoldable pub after_move : List Inscribed → ℕ → Answer Moved → Round
-after_move cs u (refusal r) = stops (fit (ended (refusal r)) cs u)
-after_move cs u (result m) = goes (progress m.point m.drift cs u)
+after_move cs u (Err r) = stops (fit (ended (Err r)) cs u)
+after_move cs u (Ok m) = goes (progress m.point m.drift cs u)
 
 -- after the refinement: refused or spent, the fit is so too
 unfoldable pub after_refined : Gap → Point2 → List Inscribed → ℕ → Ending End → Round
 unfolding after_move moved_point
-after_refined gap point cs u (ended (result done)) = after_move cs u (moved_point gap point cs)
-after_refined gap point cs u (ended (refusal r)) = stops (fit (ended (refusal r)) cs u)
+after_refined gap point cs u (ended (Ok done)) = after_move cs u (moved_point gap point cs)
+after_refined gap point cs u (ended (Err r)) = stops (fit (ended (Err r)) cs u)
 after_refined gap point cs u spent = stops (fit spent cs u)
 after_refined gap point cs u unfinished = stops (fit unfinished cs u)
 
@@ -70,9 +69,9 @@ after_out gap point o = after_refined gap point (circles_in o.state) o.units o.e
 -- "a probe without two hits ends the rounds with a result"; "the probes of an edge fit take" no unit
 unfoldable pub after_probe : List Float → Float → ℕ → (ℕ → Bool) → Gap → Point2 → List Inscribed → ℕ → Answer (Option Inscribed) → Round
 unfolding after_refined
-after_probe ns tol slots full gap point cs u (refusal r) = stops (fit (ended (refusal r)) cs u)
-after_probe ns tol slots full gap point cs u (result none) = stops (fit (ended (result point)) cs u)
-after_probe ns tol slots full gap point cs u (result (some c)) = after_out gap point (refine_run ns tol slots full cs (c ∷ []) u)
+after_probe ns tol slots full gap point cs u (Err r) = stops (fit (ended (Err r)) cs u)
+after_probe ns tol slots full gap point cs u (Ok None) = stops (fit (ended (Ok point)) cs u)
+after_probe ns tol slots full gap point cs u (Ok (Some c)) = after_out gap point (refine_run ns tol slots full cs (c ∷ []) u)
 
 unfoldable pub round : List Float → Float → ℕ → (ℕ → Bool) → Gap → Point2 → List Inscribed → ℕ → Round
 unfolding after_probe
@@ -94,14 +93,14 @@ onward go (goes p) = go p
 
 unfoldable pub rounds : List Float → Float → ℕ → (ℕ → Bool) → Gap → ℕ → Progress → Fit
 unfolding round onward
-rounds ns tol slots full gap zero p = fit (ended (result p.point)) p.circles p.units
+rounds ns tol slots full gap zero p = fit (ended (Ok p.point)) p.circles p.units
 rounds ns tol slots full gap (suc left) p =
     let on = onward (rounds ns tol slots full gap left) (round ns tol slots full gap p.point p.circles p.units) in
-    cond (le p.drift tol) (fit (ended (result p.point)) p.circles p.units) on
+    cond (le p.drift tol) (fit (ended (Ok p.point)) p.circles p.units) on
 
 -- ---- what a fit returns
 
 abbrev pub listed_edge_end : EdgeEnd → Ending FitEnd
-listed_edge_end (EdgeEnd.Fitted p) = ended (result p)
+listed_edge_end (EdgeEnd.Fitted p) = ended (Ok p)
 listed_edge_end EdgeEnd.Spent = spent
-listed_edge_end (EdgeEnd.Refused r) = ended (refusal r)
+listed_edge_end (EdgeEnd.Refused r) = ended (Err r)

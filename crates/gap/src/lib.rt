@@ -5,17 +5,16 @@ pub mod checked;
 mod probe;
 mod round;
 
-ghost use Rattle.std.specs.Prelude.{◌≡◌};
-ghost use Rattle.std.proofs.Math.Option.{some};
-ghost use Rattle.points.specs.Points.{listed_point};
+ghost use Rattle.std.specs.Prelude.{◌≡◌, Some};
+ghost use Rattle.refine.specs.Report.{ending_number};
 ghost use Rattle.gap.specs.Gap.{cap_point, cap_intersection};
+ghost use Rattle.gap.specs.Rounds.{listed_edge_end};
 
 use errors::Refusal;
-use line2::surface2::SurfacePointAnswer;
-use line2::{Line2, LineParams, ParamsAnswer};
+use line2::{Line2, LineParams};
 use lists::ends;
 use lists::ends::Pair;
-use points::{Point2, PointAnswer};
+use points::Point2;
 
 // The gap of an open section: its ends, and the chord between them.
 #[derive(Clone, Copy)]
@@ -25,13 +24,6 @@ pub struct Gap {
     pub chord: Line2,
 }
 
-// The gap, or why there is none.
-#[derive(Clone, Copy)]
-pub enum GapAnswer {
-    Value(Gap),
-    Refused(Refusal),
-}
-
 // How a fit ends: with the edge point, spent, or refused.
 #[derive(Clone, Copy)]
 pub enum EdgeEnd {
@@ -39,6 +31,19 @@ pub enum EdgeEnd {
     // One more unit is wanted than the limit: 14.
     Spent,
     Refused(Refusal),
+}
+
+// The number of an ending: 0 for an edge point, 14 for a spent fit.
+impl From<EdgeEnd> for u32 {
+    ghost from_gives = { λ end n. n ≡ ending_number (listed_edge_end end) };
+
+    fn from(end: EdgeEnd) -> u32 {
+        match end {
+            EdgeEnd::Fitted(_) => 0,
+            EdgeEnd::Spent => 14,
+            EdgeEnd::Refused(r) => u32::from(r),
+        }
+    }
 }
 
 // What a fit returns: its ending, the count of circles in the store, and the units taken.
@@ -54,59 +59,55 @@ impl EdgeFit {
     pub fn fitted(point: Point2, count: usize, units: u32) -> EdgeFit
         ensures { result ≡ record { end = EdgeEnd.Fitted point; count = count; units = units } }
     {
-        let end = EdgeEnd::Fitted(point);
-        EdgeFit { end, count, units }
+        EdgeFit {
+            end: EdgeEnd::Fitted(point),
+            count,
+            units,
+        }
     }
 
     // A fit that is spent.
     pub fn spent(count: usize, units: u32) -> EdgeFit
         ensures { result ≡ record { end = EdgeEnd.Spent; count = count; units = units } }
     {
-        let end = EdgeEnd::Spent;
-        EdgeFit { end, count, units }
+        EdgeFit {
+            end: EdgeEnd::Spent,
+            count,
+            units,
+        }
     }
 
     // A fit that ends in a refusal.
     pub fn refused(r: Refusal, count: usize, units: u32) -> EdgeFit
         ensures { result ≡ record { end = EdgeEnd.Refused r; count = count; units = units } }
     {
-        let end = EdgeEnd::Refused(r);
-        EdgeFit { end, count, units }
+        EdgeFit {
+            end: EdgeEnd::Refused(r),
+            count,
+            units,
+        }
     }
 }
 
 // The point of the ray where it meets the gap's line: 20 where that is behind its start or outside the gap.
-fn cap_point(ray: Line2, met: LineParams) -> PointAnswer
-    ensures { listed_point result ≡ cap_point ray (some met) }
+#[tactic(auto, unfolding(crate::specs::Gap::cap_point))]
+fn cap_point(ray: Line2, met: LineParams) -> Result<Point2, Refusal>
+    ensures { result ≡ cap_point ray (Some met) }
 {
-    let t = met.t;
-    let s = met.s;
-    if t <= 0.0 {
-        return PointAnswer::Refused(Refusal::GapMissed);
+    if met.t <= 0.0 || !(0.0 <= met.s && met.s <= 1.0) {
+        return Err(Refusal::GapMissed);
     }
-    if !(0.0 <= s) {
-        return PointAnswer::Refused(Refusal::GapMissed);
-    }
-    if !(s <= 1.0) {
-        return PointAnswer::Refused(Refusal::GapMissed);
-    }
-    ray.at(t)
+    ray.at(met.t)
 }
 
 // The point where the camber line, drawn on from the last circles, meets the gap.
-pub fn end_cap_intersection(end: Pair, gap: Gap) -> PointAnswer
-    ensures { listed_point result ≡ cap_intersection end gap }
+#[tactic(auto, unfolding(crate::specs::Gap::cap_intersection, crate::specs::Gap::cap_point))]
+pub fn end_cap_intersection(end: Pair, gap: Gap) -> Result<Point2, Refusal>
+    ensures { result ≡ cap_intersection end gap }
 {
-    let chord = gap.chord;
-    match ends::end_camber_ray(end) {
-        SurfacePointAnswer::Value(ray) => {
-            let line = ray.to_line();
-            match line2::intersection_param(line, chord) {
-                ParamsAnswer::Value(met) => cap_point(line, met),
-                ParamsAnswer::Parallel => PointAnswer::Refused(Refusal::GapParallel),
-                ParamsAnswer::Refused(r) => PointAnswer::Refused(r),
-            }
-        }
-        SurfacePointAnswer::Refused(r) => PointAnswer::Refused(r),
+    let line = ends::end_camber_ray(end)?.to_line();
+    match line2::intersection_param(line, gap.chord)? {
+        Some(met) => cap_point(line, met),
+        None => Err(Refusal::GapParallel),
     }
 }

@@ -3,7 +3,6 @@ use mathlib.Core.Path.{◌≡◌, sym, ap, ◌∙◌}
 use mathlib.Core.List.{List, [], ◌∷◌, ◌++◌, map, append_assoc, append-nil}
 use Prim.Native.Nat.{ℕ, suc, ◌+◌, ◌-◌, ◌*◌, ◌≤◌, ◌<◌}
 use native.Mathlib.Numerals.{add-one}
-use native.Mathlib.Nat.{add-zero}
 use native.Mathlib.Omega.{arith}
 use lib.ListN.{length, take, length-append, length-map}
 use lib.Ieee.{Float}
@@ -13,7 +12,7 @@ use Rattle.cleaning.specs.Cleaning.{point_numbers, placed}
 use Rattle.cleaning.specs.Code.{put}
 use Rattle.cleaning.proofs.Numbers.{points-numbers}
 use Rattle.cleaning.proofs.HeldLaws.{put-holding}
-use Rattle.cleaning.proofs.Made.{held-output, first_numbers, first_length}
+use Rattle.cleaning.proofs.Made.{held-output, first_numbers}
 use Rattle.inscribed.specs.Circles.{center}
 use Rattle.inscribed.specs.Store.{circle_at, circles_from, circles_of}
 use Rattle.inscribed.proofs.StoreLaws.{length-circles}
@@ -52,9 +51,6 @@ module _ (ps : List Point2) (old out : List Float) (end : ℕ) (is : out ≡ pla
   points-again : points_of (take end out) ≡ ps
   points-again = rw (first_numbers old ps end out long is) (points-numbers ps)
 
-  points_long : length (take end out) ≡ end
-  points_long = first_length old ps end out long is
-
 pub centers_long : (ns : List Float) (count : ℕ) → length (centers ns count) ≡ count
 centers_long ns count = length-map (circles_of ns count) center ∙ length-circles ns 0 count
 
@@ -68,9 +64,6 @@ module _ (ns : List Float) (count : ℕ) (old out : List Float) (is : out ≡ pu
 
   pub through_points : points_of (take (2 * count) out) ≡ centers ns count
   through_points = points-again (centers ns count) old out (2 * count) placed-centers twice
-
-  pub through_long : length (take (2 * count) out) ≡ 2 * count
-  through_long = points_long (centers ns count) old out (2 * count) placed-centers twice
 
 -- and between two end points
 module _ (p q : Point2) (ns : List Float) (count : ℕ) (old a b d : List Float) (first : a ≡ (put 0 p old).output) (more : b ≡ put_all 1 (centers ns count) a) (last : d ≡ (put (1 + count) q b).output)
@@ -87,13 +80,7 @@ module _ (p q : Point2) (ns : List Float) (count : ℕ) (old a b d : List Float)
   pub between-points : points_of (take (2 * (count + 2)) d) ≡ line
   between-points = points-again line old d (2 * (count + 2)) placed-between twice_more
 
-  pub between_long : length (take (2 * (count + 2)) d) ≡ 2 * (count + 2)
-  between_long = points_long line old d (2 * (count + 2)) placed-between twice_more
-
 -- ---- the centres of a store
-
-pub centers_start : (ns : List Float) (first count : ℕ) (out : List Float) → put_all (first + 0) (map center (circles_from ns 0 (count - 0))) out ≡ put_all first (centers ns count) out
-centers_start ns first count out = let z : count - 0 ≡ count = omega arith in rw (add-zero first, z)
 
 module _ (ns : List Float) (first count k : ℕ) (out whole : List Float) (inv : put_all (first + k) (map center (circles_from ns k (count - k))) out ≡ whole) where
   pub centers_next : k < count → (out₂ : List Float) → out₂ ≡ (put (first + k) (center (circle_at ns k)) out).output → put_all (first + (k + 1)) (map center (circles_from ns (k + 1) (count - (k + 1)))) out₂ ≡ whole

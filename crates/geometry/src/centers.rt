@@ -1,84 +1,61 @@
 // The entry tests of a camber curve: the circles in use, their centres, the end points, the tolerance and the output's length.
-ghost use Rattle.std.specs.Prelude.{◌≡◌, ◌||◌, ◌≤◌};
-ghost use Rattle.curve2.specs.Entry.{listed_entry};
+ghost use Rattle.std.specs.Prelude.{◌≡◌, ◌≤◌, length, IfOk};
+ghost use Rattle.std.specs.List.{list_any};
+ghost use Rattle.errors.specs.Answer.{passed};
 ghost use Rattle.geometry.specs.Camber.{bad_point, bad_centers, camber_entry};
 
-use curve2::{Entry, entering};
+use curve2::entering;
 use errors::Refusal;
+use inscribed::checked::{CirclesInUse, circle_at};
+use inscribed::store;
 use points::Point2;
 
 // A point with a coordinate that isn't finite or lies beyond 1,000,000.
 fn is_bad_point(p: Point2) -> bool
     ensures { result ≡ bad_point p }
 {
-    let x = p.x;
-    let y = p.y;
-    if entering::is_in_range(x) {
-        return !entering::is_in_range(y);
-    }
-    true
+    !(entering::is_in_range(p.x) && entering::is_in_range(p.y))
 }
 
-// Whether one of two end points is a bad point.
-pub(crate) fn has_bad_end(le_point: Point2, te_point: Point2) -> bool
-    ensures { result ≡ (bad_point le_point || bad_point te_point) }
+// Whether one of some points is a bad point.
+fn has_bad_point(points: &[Point2]) -> bool
+    ensures { result ≡ list_any bad_point points.now }
 {
-    if is_bad_point(le_point) {
-        return true;
-    }
-    is_bad_point(te_point)
+    points.iter().any(|p| is_bad_point(*p))
 }
 
 // Whether a centre in use, as far as the store holds them, is a bad point.
 pub fn has_bad_center(store: &[f64], count: usize) -> bool
     ensures { result ≡ bad_centers store.now count }
 {
-    let n = inscribed::store::least(count, inscribed::store::slots_in(store.len()));
-    let mut k: usize = 0;
-    while k < n {
-        let c = inscribed::checked::circle_at(store, k);
-        let p = c.center();
-        if is_bad_point(p) {
-            return true;
-        }
-        k += 1;
-    }
-    false
+    let n = count.min(store::slots_in(store.len()));
+    (0..n).any(|k| is_bad_point(circle_at(store, k).center()))
 }
 
-// The entry tests, with whether one of the end points is bad, how many they are, and the output's length.
-pub(crate) fn entered(
-    store: &[f64],
+// The entry tests, with the end points beside the centres and the output's length. The circles in use are handed on where they passed.
+#[tactic(auto, unfolding(crate::specs::Camber::camber_entry))]
+pub(crate) fn entered<'a>(
+    store: &'a [f64],
     count: usize,
     tol: f64,
-    bad_end: bool,
-    ends: usize,
+    ends: &[Point2],
     room: usize,
-) -> Entry
-    requires { ends ≤ 2 }
-    ensures { listed_entry result ≡ camber_entry store.now count tol bad_end ends room }
+) -> Result<CirclesInUse<'a>, Refusal>
+    requires { length ends.now ≤ 2 }
+    ensures entry { passed result ≡ camber_entry store.now count tol (list_any bad_point ends.now) (length ends.now) room }
+    ensures lent { IfOk result (λ c. (c.store.now ≡ store.now) × (c.count ≡ count)) }
 {
-    if inscribed::store::has_bad_circle(store, count) {
-        return Entry::Refused(Refusal::BadNumber);
-    }
-    if has_bad_center(store, count) {
-        return Entry::Refused(Refusal::BadNumber);
-    }
-    if bad_end {
-        return Entry::Refused(Refusal::BadNumber);
+    if store::has_bad_circle(store, count) || has_bad_center(store, count) || has_bad_point(ends) {
+        return Err(Refusal::BadNumber);
     }
     if entering::is_bad_tolerance(tol) {
-        return Entry::Refused(Refusal::Tolerance);
+        return Err(Refusal::Tolerance);
     }
-    if inscribed::store::is_bad_store_count(store, count) {
-        return Entry::Refused(Refusal::NoRoom);
+    if store::is_bad_store_count(store, count) || room < 2 * (count + ends.len()) + 2 {
+        return Err(Refusal::NoRoom);
     }
-    let points = count + ends;
-    if room < 2 * points + 2 {
-        return Entry::Refused(Refusal::NoRoom);
+    if count + ends.len() < 2 {
+        return Err(Refusal::TooFewKept);
     }
-    if points < 2 {
-        return Entry::Refused(Refusal::TooFewKept);
-    }
-    Entry::Passed
+    Ok(CirclesInUse { store, count })
 }

@@ -7,7 +7,8 @@ use Prim.Native.Nat.{ℕ, zero, suc, ◌+◌, ◌^◌, ◌≤◌, ◌<◌}
 use native.Mathlib.Nat.{suc-add, zero-add}
 use native.Mathlib.Omega.{arith}
 use lib.Ieee.{Float, lt}
-use Rattle.errors.specs.Answer.{Answer, result, refusal, ◌>>=◌}
+use Rattle.std.specs.Prelude.{Ok, Err}
+use Rattle.errors.specs.Answer.{Answer, ◌>>=◌}
 use Rattle.points.specs.Numbers.{◌+f◌, ◌*f◌, f0, f½, f1}
 use Rattle.points.specs.Points.{minus, dot_of, norm_of, dist_of}
 use Rattle.points.specs.declared.Point2.{Point2}
@@ -24,17 +25,17 @@ use Rattle.halving.proofs.Dyadic.{dyadic, one_is_dyadic, zero_is_dyadic, last_is
 
 pub record Given {A B : Type 0} (a : Answer A) (f : A → Answer B) (b : B) : Type 0 where
   pub value : A
-  pub is : a ≡ result value
-  pub gives : f value ≡ result b
+  pub is : a ≡ Ok value
+  pub gives : f value ≡ Ok b
 
-pub given : {A B : Type 0} (a : Answer A) (f : A → Answer B) (b : B) → (a >>= f) ≡ result b → Given a f b
-given (result x) f b e = record { value = x; is = refl; gives = e }
-given (refusal n) f b e = let z : ◌≡◌ {A = ℕ} 0 1 = cc in absurd (omega arith)
+pub given : {A B : Type 0} (a : Answer A) (f : A → Answer B) (b : B) → (a >>= f) ≡ Ok b → Given a f b
+given (Ok x) f b e = record { value = x; is = refl; gives = e }
+given (Err n) f b e = let z : ◌≡◌ {A = ℕ} 0 1 = cc in absurd (omega arith)
 
 abbrev middle_of : SearchEnds → Float
 middle_of e = (e.pos.f +f e.neg.f) *f f½
 
-halved_fractions : (ns : List Float) (l : Line2) (e next : SearchEnds) → halved ns l e ≡ result next
+halved_fractions : (ns : List Float) (l : Line2) (e next : SearchEnds) → halved ns l e ≡ Ok next
     → ((next.pos.f ≡ middle_of e) × (next.neg.f ≡ e.neg.f)) ⊎ ((next.pos.f ≡ e.pos.f) × (next.neg.f ≡ middle_of e))
 unfolding halved
 halved_fractions ns l e next h =
@@ -44,15 +45,15 @@ halved_fractions ns l e next h =
     let four = given (dot_of (minus two.value.at.point one.value) l.direction) _ next three.gives in
     go (lt f0 four.value) (search_end (middle_of e) three.value two.value.at.point) refl four.gives
   where
-    go : (b : Bool) (end : InscribedEnd) → end.f ≡ middle_of e → result (cond b (record { pos = end; neg = e.neg }) (record { pos = e.pos; neg = end })) ≡ result next
+    go : (b : Bool) (end : InscribedEnd) → end.f ≡ middle_of e → ◌≡◌ {A = Answer SearchEnds} (Ok (cond b (record { pos = end; neg = e.neg }) (record { pos = e.pos; neg = end }))) (Ok next)
         → ((next.pos.f ≡ middle_of e) × (next.neg.f ≡ e.neg.f)) ⊎ ((next.pos.f ≡ e.pos.f) × (next.neg.f ≡ middle_of e))
     go true end m q = let s : next ≡ record { pos = end; neg = e.neg } = cc in inl (ap (λ (z : SearchEnds). z.pos.f) s ∙ m, ap (λ (z : SearchEnds). z.neg.f) s)
     go false end m q = let s : next ≡ record { pos = e.pos; neg = end } = cc in inr (ap (λ (z : SearchEnds). z.pos.f) s, ap (λ (z : SearchEnds). z.neg.f) s ∙ m)
 
 -- two ways on that agree where a step gives a result
-alike : {A B : Type 0} (a : Answer A) (f g : A → Answer B) → ((x : A) → a ≡ result x → f x ≡ g x) → (a >>= f) ≡ (a >>= g)
-alike (result x) f g h = h x refl
-alike (refusal n) f g h = refl
+alike : {A B : Type 0} (a : Answer A) (f g : A → Answer B) → ((x : A) → a ≡ Ok x → f x ≡ g x) → (a >>= f) ≡ (a >>= g)
+alike (Ok x) f g h = h x refl
+alike (Err n) f g h = refl
 
 -- ---- after k halvings
 
@@ -65,7 +66,7 @@ record Neighbours (k : ℕ) (e : SearchEnds) : Type 0 where
 first_neighbours : (p1 p0 : Point2) → Neighbours 0 (first_ends p1 p0)
 first_neighbours p1 p0 = record { a = 0; below = omega arith; upper = one_is_dyadic; lower = zero_is_dyadic }
 
-next_neighbours : (ns : List Float) (l : Line2) (k : ℕ) (e next : SearchEnds) → k ≤ 52 → Neighbours k e → halved ns l e ≡ result next → Neighbours (suc k) next
+next_neighbours : (ns : List Float) (l : Line2) (k : ℕ) (e next : SearchEnds) → k ≤ 52 → Neighbours k e → halved ns l e ≡ Ok next → Neighbours (suc k) next
 next_neighbours ns l k e next few n h = ⊎_elim down up (halved_fractions ns l e next h)
   where
     between_them : middle_of e ≡ dyadic (suc (n.a + n.a)) (suc k)
@@ -112,12 +113,12 @@ module _ (ns : List Float) (l : Line2) (resolve len : Float) (short : lt resolve
 
   -- ---- the source's loop ends, in the answer of at most 52 halvings
 
-  step : (j : ℕ) (e : SearchEnds) → ((next : SearchEnds) → halved ns l e ≡ result next → SourceLoop ns l resolve len next (halving ns l resolve len j next))
+  step : (j : ℕ) (e : SearchEnds) → ((next : SearchEnds) → halved ns l e ≡ Ok next → SourceLoop ns l resolve len next (halving ns l resolve len j next))
       → (b : Bool) → is_wide resolve len e ≡ b → (a : Answer SearchEnds) → halved ns l e ≡ a
       → SourceLoop ns l resolve len e (cond b (a >>= λ next. halving ns l resolve len j next) (circle_between ns l e))
   step j e ih false p a q = stops e p
-  step j e ih true p (refusal m) q = refuses e m p q
-  step j e ih true p (result next) q = goes e next (halving ns l resolve len j next) p q (ih next q)
+  step j e ih true p (Err m) q = refuses e m p q
+  step j e ih true p (Ok next) q = goes e next (halving ns l resolve len j next) p q (ih next q)
 
   loops : (j k : ℕ) (e : SearchEnds) → j + k ≡ 52 → Neighbours k e → SourceLoop ns l resolve len e (halving ns l resolve len j e)
   unfolding halving
@@ -129,7 +130,7 @@ module _ (ns : List Float) (l : Line2) (resolve len : Float) (short : lt resolve
 
 -- the circle of a line that is neither refused nor too long is what the source's loop ends in
 pub line_loops : (ns : List Float) (tol : Float) (l : Line2) (len : Float) (p1 p0 : Point2)
-    → norm_of l.direction ≡ result len → lt (resolve_tol tol) (two_to_minus52 *f len) ≡ false → at_param l f1 ≡ result p1 → at_param l f0 ≡ result p0
+    → norm_of l.direction ≡ Ok len → lt (resolve_tol tol) (two_to_minus52 *f len) ≡ false → at_param l f1 ≡ Ok p1 → at_param l f0 ≡ Ok p0
     → SourceLoop ns l (resolve_tol tol) len (first_ends p1 p0) (from_line ns tol l)
 unfolding from_line
 line_loops ns tol l len p1 p0 n short a b = rw (n, short, a, b) (halving_loops ns l (resolve_tol tol) len short p1 p0)

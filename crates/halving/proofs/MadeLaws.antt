@@ -10,7 +10,8 @@ use lib.Dec.{T, ltb, eqb}
 use lib.Ieee.{Float, nan, inf, fin, up, down, lt, le, eq, of_bits}
 use lib.Ieee.Bits.{is_true}
 use lib.Ieee.Scale.{finite}
-use Rattle.errors.specs.Answer.{result, refusal, ◌>>=◌}
+use Rattle.std.specs.Prelude.{Ok, Err}
+use Rattle.errors.specs.Answer.{Answer, ◌>>=◌}
 use Rattle.errors.specs.declared.Refusal.TheVariants.{TooLong}
 use Rattle.points.specs.Numbers.{◌+f◌, ◌-f◌, ◌*f◌, ◌/f◌, f0, f½, f1}
 use Rattle.points.specs.Points.{minus, moved, dot_of, norm_of, dist_of}
@@ -39,7 +40,7 @@ use Rattle.halving.proofs.HalvingLaws.{given}
 
 -- ---- a point on a line, and a nearest point with its fraction
 
-param_finite : (l : Line2) (t : Float) (p : Point2) → at_param l t ≡ result p → FinitePoint p
+param_finite : (l : Line2) (t : Float) (p : Point2) → at_param l t ≡ Ok p → FinitePoint p
 unfolding at_param
 param_finite l t p e = point-finite (moved l.origin l.direction t) p e
 
@@ -66,7 +67,7 @@ held-plus s t = go (le s f0) (le f1 s) refl
     go false true e = tt
     go false false e = above_zero s t e
 
-fraction-finite : (p a b : Point2) (s : Float) → fraction_on p a b ≡ result s → T (finite s)
+fraction-finite : (p a b : Point2) (s : Float) → fraction_on p a b ≡ Ok s → T (finite s)
 unfolding fraction_on
 fraction-finite p a b s e =
     let one = given (dot_of (minus p a) (minus b a)) _ s e in
@@ -74,7 +75,7 @@ fraction-finite p a b s e =
     let w = watched-finite (one.value /f two.value) s two.gives in
     rw (← w.0) w.1
 
-edge_good : (p a b : Point2) (q : EdgePoint) → closest_on_edge p a b ≡ result q → Good q
+edge_good : (p a b : Point2) (q : EdgePoint) → closest_on_edge p a b ≡ Ok q → Good q
 unfolding closest_on_edge measured_to
 edge_good p a b q e =
     let one = given (fraction_on p a b) _ q e in
@@ -92,7 +93,7 @@ abbrev AllGood : List EdgePoint → Type 0
 AllGood [] = Unit {0}
 AllGood (q ∷ qs) = Good q × AllGood qs
 
-all_good : (p : Point2) (es : List Edge) (qs : List EdgePoint) → closest_on_all p es ≡ result qs → AllGood qs
+all_good : (p : Point2) (es : List Edge) (qs : List EdgePoint) → closest_on_all p es ≡ Ok qs → AllGood qs
 unfolding closest_on_all
 all_good p [] qs h = let z : qs ≡ [] = cc in rw z tt
 all_good p (e ∷ es) qs h =
@@ -110,11 +111,11 @@ least_good best i (q ∷ qs) g gs = let b = lt q.square best.at.square in least_
     go true = gs.0
     go false = g
 
-nearest_good : (ns : List Float) (p : Point2) (n : Nearest) → nearest_of ns p ≡ result n → Good n.at
+nearest_good : (ns : List Float) (p : Point2) (n : Nearest) → nearest_of ns p ≡ Ok n → Good n.at
 unfolding nearest_of least_of_all
 nearest_good ns p n e = let one = given (closest_on_all p (section_edges ns)) _ n e in go one.value (all_good p (section_edges ns) one.value one.is) one.gives
   where
-    go : (qs : List EdgePoint) → AllGood qs → least_of_all qs ≡ result n → Good n.at
+    go : (qs : List EdgePoint) → AllGood qs → least_of_all qs ≡ Ok n → Good n.at
     go [] gs t = let z : ◌≡◌ {A = ℕ} 0 1 = cc in absurd (omega arith)
     go (q ∷ qs) gs t = let z : n ≡ least_of (nearest 0 q) 1 qs = cc in rw z (least_good (nearest 0 q) 1 qs gs.0 gs.1)
 
@@ -138,7 +139,7 @@ abbrev FinitePlus : Float → Type 0
 FinitePlus x = T (finite x) × T (plus x)
 
 module _ (ns : List Float) (tol : Float) (sec : IsSection ns tol) where
-  length_good : (i : ℕ) (f l : Float) → i < last_vertex ns → T (plus f) → length_along ns i f ≡ result l → FinitePlus l
+  length_good : (i : ℕ) (f l : Float) → i < last_vertex ns → T (plus f) → length_along ns i f ≡ Ok l → FinitePlus l
   unfolding length_along
   length_good i f l h p e =
       let m = length_at ns i in
@@ -152,7 +153,7 @@ module _ (ns : List Float) (tol : Float) (sec : IsSection ns tol) where
       let pw = plus-mul (n -f m) f pd p two.1 in
       rw (← w.0) (w.1, plus-add m ((n -f m) *f f) pm pw w.1)
 
-  lengths_good : (p q : Point2) (ls : LengthPair) → closest_lengths ns p q ≡ result ls → FinitePlus ls.first × FinitePlus ls.second
+  lengths_good : (p q : Point2) (ls : LengthPair) → closest_lengths ns p q ≡ Ok ls → FinitePlus ls.first × FinitePlus ls.second
   unfolding closest_lengths lengths_along
   lengths_good p q ls e =
       let one = given (nearest_of ns p) _ ls e in
@@ -175,10 +176,10 @@ module _ (ns : List Float) (tol : Float) (sec : IsSection ns tol) where
     upper_near : Near e.pos.d
     lower_near : Near e.neg.d
 
-  first_good : (l : Line2) (p1 p0 : Point2) → at_param l f1 ≡ result p1 → at_param l f0 ≡ result p0 → GoodEnds (first_ends p1 p0)
+  first_good : (l : Line2) (p1 p0 : Point2) → at_param l f1 ≡ Ok p1 → at_param l f0 ≡ Ok p0 → GoodEnds (first_ends p1 p0)
   first_good l p1 p0 a b = record { upper = param_finite l f1 p1 a; lower = param_finite l f0 p0 b; upper_near = zero_near; lower_near = zero_near }
 
-  halved_good : (l : Line2) (e next : SearchEnds) → GoodEnds e → halved ns l e ≡ result next → GoodEnds next
+  halved_good : (l : Line2) (e next : SearchEnds) → GoodEnds e → halved ns l e ≡ Ok next → GoodEnds next
   unfolding halved
   halved_good l e next g h =
       let fraction = (e.pos.f +f e.neg.f) *f f½ in
@@ -189,7 +190,7 @@ module _ (ns : List Float) (tol : Float) (sec : IsSection ns tol) where
       let four = given (dot_of (minus p one.value) l.direction) _ next three.gives in
       go (lt f0 four.value) (search_end fraction three.value p) (nearest_good ns one.value two.value two.is).0 (dist_near one.value p three.value three.is) four.gives
     where
-      go : (b : Bool) (end : InscribedEnd) → FinitePoint end.p → Near end.d → result (cond b (record { pos = end; neg = e.neg }) (record { pos = e.pos; neg = end })) ≡ result next → GoodEnds next
+      go : (b : Bool) (end : InscribedEnd) → FinitePoint end.p → Near end.d → ◌≡◌ {A = Answer SearchEnds} (Ok (cond b (record { pos = end; neg = e.neg }) (record { pos = e.pos; neg = end }))) (Ok next) → GoodEnds next
       go true end u v q = let s : next ≡ record { pos = end; neg = e.neg } = cc in rw s (record { upper = u; lower = g.lower; upper_near = v; lower_near = g.lower_near })
       go false end u v q = let s : next ≡ record { pos = e.pos; neg = end } = cc in rw s (record { upper = g.upper; lower = u; upper_near = g.upper_near; lower_near = v })
 
@@ -199,7 +200,7 @@ module _ (ns : List Float) (tol : Float) (sec : IsSection ns tol) where
   good_length : (x : Float) → FinitePlus x → bad_length x ≡ false
   good_length x g = rw (is_true (finite x) g.0, plus-not_below x g.1)
 
-  circle_good : (l : Line2) (e : SearchEnds) (c : Inscribed) → GoodEnds e → circle_between ns l e ≡ result c → bad_circle c ≡ false
+  circle_good : (l : Line2) (e : SearchEnds) (c : Inscribed) → GoodEnds e → circle_between ns l e ≡ Ok c → bad_circle c ≡ false
   unfolding circle_between bad_circle
   circle_good l e c g h =
       let one = given (at_param l ((e.pos.f +f e.neg.f) *f f½)) _ c h in
@@ -210,23 +211,23 @@ module _ (ns : List Float) (tol : Float) (sec : IsSection ns tol) where
       let is : c ≡ inscribed one.value ((e.pos.d +f e.neg.d) *f f½) e.neg.p e.pos.p two.value.first two.value.second = cc two.gives in
       rw (is, good_point one.value o, good_point e.neg.p g.lower, good_point e.pos.p g.upper, good_length ((e.pos.d +f e.neg.d) *f f½) r, good_length two.value.first along.0, good_length two.value.second along.1)
 
-  halving_good : (l : Line2) (resolve len : Float) (fuel : ℕ) (e : SearchEnds) (c : Inscribed) → GoodEnds e → halving ns l resolve len fuel e ≡ result c → bad_circle c ≡ false
+  halving_good : (l : Line2) (resolve len : Float) (fuel : ℕ) (e : SearchEnds) (c : Inscribed) → GoodEnds e → halving ns l resolve len fuel e ≡ Ok c → bad_circle c ≡ false
   unfolding halving
   halving_good l resolve len zero e c g h = circle_good l e c g h
   halving_good l resolve len (suc fuel) e c g h = go (is_wide resolve len e) (λ next gn hn. halving_good l resolve len fuel next c gn hn) h
     where
-      go : (b : Bool) → ((next : SearchEnds) → GoodEnds next → halving ns l resolve len fuel next ≡ result c → bad_circle c ≡ false) → cond b (halved ns l e >>= λ next. halving ns l resolve len fuel next) (circle_between ns l e) ≡ result c → bad_circle c ≡ false
+      go : (b : Bool) → ((next : SearchEnds) → GoodEnds next → halving ns l resolve len fuel next ≡ Ok c → bad_circle c ≡ false) → cond b (halved ns l e >>= λ next. halving ns l resolve len fuel next) (circle_between ns l e) ≡ Ok c → bad_circle c ≡ false
       go false ih h = circle_good l e c g h
       go true ih h = let one = given (halved ns l e) _ c h in ih one.value (halved_good l e one.value g one.is) one.gives
 
   -- the circle of a line, so every circle that is made
-  pub made_passes : (general : Float) (l : Line2) (c : Inscribed) → from_line ns general l ≡ result c → bad_circle c ≡ false
+  pub made_passes : (general : Float) (l : Line2) (c : Inscribed) → from_line ns general l ≡ Ok c → bad_circle c ≡ false
   unfolding from_line halved_from
   made_passes general l c e =
       let one = given (norm_of l.direction) _ c e in
       go one.value (lt (resolve_tol general) (two_to_minus52 *f one.value)) one.gives
     where
-      go : (len : Float) (b : Bool) → cond b (refusal TooLong) (halved_from ns l (resolve_tol general) len) ≡ result c → bad_circle c ≡ false
+      go : (len : Float) (b : Bool) → cond b (Err TooLong) (halved_from ns l (resolve_tol general) len) ≡ Ok c → bad_circle c ≡ false
       go len true h = let z : ◌≡◌ {A = ℕ} 0 1 = cc in absurd (omega arith)
       go len false h =
           let one = given (at_param l f1) _ c h in

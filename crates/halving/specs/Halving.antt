@@ -1,9 +1,8 @@
 -- `inscribed_from_crossing`, where the centre is found on a crossing line by halving, and `try_inscribed`, the circle on a line. Assumes nothing.
-use Rattle.std.specs.Prelude.{Bool, cond, List, ℕ, zero, suc, Float}
-use Rattle.std.proofs.Math.Option.{Option, some, none}
+use Rattle.std.specs.Prelude.{Bool, cond, List, ℕ, zero, suc, Float, Option, Some, None, Ok, Err}
 use Rattle.std.specs.Float.Ieee.{lt, of_bits}
 use Rattle.std.specs.Float.{binary64}
-use Rattle.errors.specs.Answer.{Answer, result, ◌>>=◌, refusal}
+use Rattle.errors.specs.Answer.{Answer, ◌>>=◌}
 use Rattle.points.specs.Numbers.{◌+f◌, ◌-f◌, ◌*f◌, f0, f½, f1}
 use Rattle.points.specs.Points.{minus, dot_of, dist_of, norm_of}
 use Rattle.points.specs.declared.Point2.{Point2}
@@ -15,18 +14,13 @@ use Rattle.sections.specs.Places.{closest_lengths}
 use Rattle.inscribed.specs.Circles.{inscribed}
 use Rattle.inscribed.specs.declared.Inscribed.{Inscribed}
 use Rattle.halving.specs.declared.bisection.InscribedEnd.{InscribedEnd}
+pub use Rattle.halving.specs.declared.bisection.SearchEnds.{SearchEnds}
 use Rattle.queries.specs.declared.Crossing.{Crossing}
 use Rattle.errors.specs.declared.Refusal.TheVariants.{TooLong}
 use Rattle.queries.specs.Crossing.{crossing_of, crossing_on}
-use Rattle.halving.specs.declared.TriedAnswer.{TriedAnswer}
 
 abbrev pub search_end : Float → Float → Point2 → InscribedEnd
 search_end f d p = record { f = f; d = d; p = p }
-
--- the two ends of the search
-pub record SearchEnds : Type 0 where
-  pub pos : InscribedEnd
-  pub neg : InscribedEnd
 
 -- one of the ends moves to the working point, whose nearest point is p: "The upper end moves only if the product with the direction is above zero."
 unfoldable pub moved_ends : Vector2 → SearchEnds → Float → Point2 → Point2 → Answer SearchEnds
@@ -34,7 +28,7 @@ moved_ends direction e fraction working p =
     dist_of working p >>= λ distance.
     dot_of (minus p working) direction >>= λ product.
     let end = search_end fraction distance p in
-    result (cond (lt f0 product) (record { pos = end; neg = e.neg }) (record { pos = e.pos; neg = end }))
+    Ok (cond (lt f0 product) (record { pos = end; neg = e.neg }) (record { pos = e.pos; neg = end }))
 
 -- one halving
 unfoldable pub halved : List Float → Line2 → SearchEnds → Answer SearchEnds
@@ -51,7 +45,7 @@ unfolding closest_lengths
 circle_between ns l e =
     at_param l ((e.pos.f +f e.neg.f) *f f½) >>= λ o.
     closest_lengths ns e.neg.p e.pos.p >>= λ along.
-    result (inscribed o ((e.pos.d +f e.neg.d) *f f½) e.neg.p e.pos.p along.first along.second)
+    Ok (inscribed o ((e.pos.d +f e.neg.d) *f f½) e.neg.p e.pos.p along.first along.second)
 
 -- the test of the source's loop: the part of the line between the ends is longer than the resolve tolerance
 abbrev pub is_wide : Float → Float → SearchEnds → Bool
@@ -97,15 +91,15 @@ unfoldable pub from_line : List Float → Float → Line2 → Answer Inscribed
 unfolding halved_from
 from_line ns tol l =
     norm_of l.direction >>= λ len.
-    cond (lt (resolve_tol tol) (two_to_minus52 *f len)) (refusal TooLong) (halved_from ns l (resolve_tol tol) len)
+    cond (lt (resolve_tol tol) (two_to_minus52 *f len)) (Err TooLong) (halved_from ns l (resolve_tol tol) len)
 
 abbrev pub from_crossing : List Float → Float → Crossing → Answer Inscribed
 from_crossing ns tol c = from_line ns tol c.line
 
 -- `try_inscribed`: none where the line has no crossing
 unfoldable pub circle_on : List Float → Float → Option Crossing → Answer (Option Inscribed)
-circle_on ns tol none = result none
-circle_on ns tol (some c) = from_crossing ns tol c >>= λ circle. result (some circle)
+circle_on ns tol None = Ok None
+circle_on ns tol (Some c) = from_crossing ns tol c >>= λ circle. Ok (Some circle)
 
 unfoldable pub try_inscribed : List Float → Float → Line2 → Answer (Option Inscribed)
 unfolding circle_on
@@ -114,9 +108,3 @@ try_inscribed ns tol l = crossing_of ns l >>= circle_on ns tol
 -- the circle on a line that must have a crossing (8): its halving may be 10 or 12
 unfoldable pub inscribed_on : List Float → Float → Line2 → Answer Inscribed
 inscribed_on ns tol l = crossing_on ns l >>= from_crossing ns tol
-
--- what it lists: a circle, none, or the number of its refusal
-abbrev pub listed_tried : TriedAnswer → Answer (Option Inscribed)
-listed_tried (TriedAnswer.Value c) = result (some c)
-listed_tried TriedAnswer.Nothing = result none
-listed_tried (TriedAnswer.Refused r) = refusal r

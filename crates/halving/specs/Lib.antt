@@ -1,4 +1,3 @@
 -- The circle of a crossing, by halving.
 pub mod Halving
-pub mod Code
 pub mod SourceLoop

@@ -8,8 +8,9 @@ use native.Mathlib.Nat.{add-zero}
 use native.Mathlib.Omega.{arith}
 use lib.ListN.{length, get_or}
 use lib.IntN.{pos}
-use lib.Ieee.{Float, lt, of_int, binary64}
-use Rattle.errors.specs.Answer.{Answer, result, refusal, ◌>>=◌}
+use lib.Ieee.{Float, nan, inf, fin, lt, of_int, binary64}
+use Rattle.std.specs.Prelude.{Ok, Err}
+use Rattle.errors.specs.Answer.{Answer, ◌>>=◌}
 use Rattle.errors.specs.declared.Refusal.{Refusal}
 use Rattle.errors.specs.Lists.{last_of}
 use Rattle.points.specs.Numbers.{◌/f◌, f0}
@@ -34,34 +35,45 @@ unfolding last_of circles_from
 last_at ns k zero = rw (add-zero k)
 last_at ns k (suc n) = let z : k + suc n ≡ suc k + n = omega arith in rw z (last_at ns (suc k) n)
 
-pub ends_are : (ns : List Float) (count : ℕ) → 0 < count → result (record { front = circle_at ns 0; back = circle_at ns (count - 1) }) ≡ front_and_back (circles_of ns count)
+pub ends_are : (ns : List Float) (count : ℕ) → 0 < count → Ok (record { front = circle_at ns 0; back = circle_at ns (count - 1) }) ≡ front_and_back (circles_of ns count)
 unfolding front_and_back circles_from
 ends_are ns zero h = absurd (omega arith)
 ends_are ns (suc n) h = let z : suc n - 1 ≡ n = omega arith in let zero-add : 0 + n ≡ n = omega arith in rw (z, last_at ns 0 n, zero-add)
 
 -- ---- the thickest
 
-pub tmax_start : (ns : List Float) (count : ℕ) → 0 < count → tmax_from 0 (circle_at ns 0).r 1 (circles_from ns 1 (count - 1)) ≡ tmax (circles_of ns count)
-unfolding tmax circles_from
-tmax_start ns zero h = absurd (omega arith)
-tmax_start ns (suc n) h = let z : suc n - 1 ≡ n = omega arith in rw z
+-- no number is less than a NaN
+never_less : (x : Float) → lt x nan ≡ false
+unfolding lt
+never_less nan = refl
+never_less (inf s) = refl
+never_less (fin s m e) = refl
+
+-- so the first circle wins
+pub tmax_from_first : (cs : List Inscribed) → tmax_from 0 nan 0 cs ≡ tmax cs
+unfolding tmax_from tmax
+tmax_from_first [] = refl
+tmax_from_first (c ∷ cs) = rw (never_less c.r)
+
+pub tmax_start : (ns : List Float) (count : ℕ) → tmax_from 0 nan 0 (circles_from ns 0 (count - 0)) ≡ tmax (circles_of ns count)
+tmax_start ns count = let z : count - 0 ≡ count = omega arith in rw z (tmax_from_first (circles_of ns count))
 
 module _ (ns : List Float) (count best : ℕ) (most : Float) (k whole : ℕ) (inv : tmax_from best most k (circles_from ns k (count - k)) ≡ whole) where
   module _ (h : k < count) where
     later : count - k ≡ suc (count - (k + 1))
     later = omega arith
 
-    pub tmax-kept : lt (circle_at ns k).r most ≡ true → tmax_from best most (k + 1) (circles_from ns (k + 1) (count - (k + 1))) ≡ whole
+    pub tmax_kept : lt (circle_at ns k).r most ≡ true → tmax_from best most (k + 1) (circles_from ns (k + 1) (count - (k + 1))) ≡ whole
     unfolding tmax_from circles_from
-    tmax-kept p = rw (add-one k) (rw (later, p, add-one k) at inv)
+    tmax_kept p = rw (add-one k) (rw (later, p, add-one k) at inv)
 
     pub tmax_won : lt (circle_at ns k).r most ≡ false → tmax_from k (circle_at ns k).r (k + 1) (circles_from ns (k + 1) (count - (k + 1))) ≡ whole
     unfolding tmax_from circles_from
     tmax_won p = rw (add-one k) (rw (later, p, add-one k) at inv)
 
-  pub tmax-over : count ≤ k → best ≡ whole
+  pub tmax_over : count ≤ k → best ≡ whole
   unfolding tmax_from circles_from
-  tmax-over h = let z : count - k ≡ 0 = omega arith in rw z at inv
+  tmax_over h = let z : count - k ≡ 0 = omega arith in rw z at inv
 
 tmax_from_lem : (best : ℕ) (most : Float) (k : ℕ) (cs : List Inscribed) → best < k → tmax_from best most k cs < k + length cs
 unfolding tmax_from
@@ -80,7 +92,7 @@ tmax-place (c ∷ cs) h = omega (arith, tmax_from_lem 0 c.r 1 cs (omega arith))
 
 -- ---- the spacing
 
-pub too_few : (ns : List Float) (count : ℕ) → count < 2 → refusal TooFewCircles ≡ average_spacing (circles_of ns count)
+pub too_few : (ns : List Float) (count : ℕ) → count < 2 → Err TooFewCircles ≡ average_spacing (circles_of ns count)
 unfolding average_spacing circles_from
 too_few ns zero h = refl
 too_few ns (suc zero) h = refl
@@ -90,28 +102,25 @@ too_few ns (suc (suc n)) h = absurd (omega arith)
 abbrev pub whole_sum : List Float → ℕ → Answer Float
 whole_sum ns last = spacing_sum f0 (circle_at ns 0) (circles_from ns 1 last)
 
-pub average_is : (ns : List Float) (count : ℕ) → 2 ≤ count → average_spacing (circles_of ns count) ≡ (whole_sum ns (count - 1) >>= λ sum. result (sum /f of_int binary64 (pos (count - 1))))
+pub average_is : (ns : List Float) (count : ℕ) → 2 ≤ count → average_spacing (circles_of ns count) ≡ (whole_sum ns (count - 1) >>= λ sum. Ok (sum /f of_int binary64 (pos (count - 1))))
 unfolding average_spacing circles_from
 average_is ns zero h = absurd (omega arith)
 average_is ns (suc zero) h = absurd (omega arith)
 average_is ns (suc (suc n)) h = let z : suc (suc n) - 1 ≡ suc n = omega arith in rw (z, length-circles ns 2 n)
-
-pub sum_start : (ns : List Float) (last : ℕ) → spacing_sum f0 (circle_at ns 0) (circles_from ns (0 + 1) (last - 0)) ≡ whole_sum ns last
-sum_start ns last = let z : last - 0 ≡ last = omega arith in rw z
 
 module _ (ns : List Float) (last : ℕ) (sum : Float) (k : ℕ) (whole : Answer Float) (inv : spacing_sum sum (circle_at ns k) (circles_from ns (k + 1) (last - k)) ≡ whole) where
   module _ (h : k < last) where
     further : last - k ≡ suc (last - (k + 1))
     further = omega arith
 
-    pub sum-refused : (n : Refusal) → refusal n ≡ spacing_after sum (circle_at ns k) (circle_at ns (k + 1)) → refusal n ≡ whole
+    pub sum_refused : (n : Refusal) → Err n ≡ spacing_after sum (circle_at ns k) (circle_at ns (k + 1)) → Err n ≡ whole
     unfolding spacing_sum circles_from
-    sum-refused n e = rw (further, ← e) at inv
+    sum_refused n e = rw (further, ← e) at inv
 
-    pub sum_goes : (s : Float) → result s ≡ spacing_after sum (circle_at ns k) (circle_at ns (k + 1)) → spacing_sum s (circle_at ns (k + 1)) (circles_from ns (k + 1 + 1) (last - (k + 1))) ≡ whole
+    pub sum_goes : (s : Float) → Ok s ≡ spacing_after sum (circle_at ns k) (circle_at ns (k + 1)) → spacing_sum s (circle_at ns (k + 1)) (circles_from ns (k + 1 + 1) (last - (k + 1))) ≡ whole
     unfolding spacing_sum circles_from
     sum_goes s e = rw (add-one (k + 1)) (rw (further, ← e) at inv)
 
-  pub sum_over : last ≤ k → result sum ≡ whole
+  pub sum_over : last ≤ k → Ok sum ≡ whole
   unfolding spacing_sum circles_from
   sum_over h = let z : last - k ≡ 0 = omega arith in rw z at inv

@@ -1,21 +1,20 @@
 -- A store's numbers and its circles: what is put is read, the circles in use are its first numbers, and one more circle. Assumes nothing.
 use mathlib.Core.Path.{◌≡◌, refl, sym, ap, ◌∙◌}
-use mathlib.Core.Bool.{Bool, true, false, ◌||◌, cond}
+use mathlib.Core.Bool.{Bool, false, ◌||◌}
 use mathlib.Core.List.{List, [], ◌∷◌, ◌++◌, append_assoc, append-nil}
-use Prim.Native.Nat.{ℕ, zero, suc, ◌+◌, ◌-◌, ◌*◌, ◌≤◌, ◌<◌, min}
+use Prim.Native.Nat.{ℕ, zero, suc, ◌+◌, ◌-◌, ◌*◌, ◌≤◌, ◌<◌}
 use native.Mathlib.Numerals.{add-one, add-two, add-three, add-four, add_five, add_six, add_seven, add_eight}
 use native.Mathlib.Nat.{add-zero}
 use native.Mathlib.Omega.{arith}
 use borrow.Author.Tests.{ltb-false}
 use lib.Dec.{ltb}
-use lib.ListN.{length, get_or, set, take, drop, length-append, take-append-drop}
-use lib.Seq.{drop-cons, drop-drop, take-add, sets-eq, take_at, drop-append-add, get_or-append-add}
+use lib.ListN.{length, get_or, take, drop, length-append, take-append-drop}
+use lib.Seq.{drop-cons, drop-drop, take-add, take_at, drop-append-add, get_or-append-add}
 use lib.Ieee.{Float, nan}
-use Rattle.errors.specs.Answer.{result, refusal}
-use Rattle.errors.specs.declared.Refusal.{Refusal}
-use Rattle.curve2.specs.Entry.{listed_entry}
-use Rattle.curve2.specs.declared.Entry.{Entry}
-use Rattle.inscribed.specs.Store.{width, numbers_of, circle_from, circle_at, circles_from, circles_of, all_numbers, stored, bad_circle, any_bad, slots, bad_store, bad_store_count, circles_entry, numbers_from}
+use Rattle.std.specs.Prelude.{Ok}
+use Rattle.std.specs.List.{list_any, range_with_len}
+use Rattle.curve2.proofs.Laws.{none_bad, or_left, or_right}
+use Rattle.inscribed.specs.Store.{width, most_slots, numbers_of, circle_from, circle_at, circles_from, circles_of, all_numbers, stored, bad_circle, any_bad, slots, bad_store, bad_store_count, circles_entry, numbers_from}
 use Rattle.inscribed.specs.Code.{with_circle}
 use Rattle.inscribed.specs.declared.Inscribed.{Inscribed}
 use Rattle.errors.specs.declared.Refusal.TheVariants.{BadNumber, NoRoom}
@@ -104,8 +103,6 @@ pub stored-again : (ns : List Float) (n : ℕ) → width * n ≤ length ns → s
 unfolding stored
 stored-again ns n h = rw (length-circles ns 0 n, numbers_of-circles ns n h) (take-append-drop (width * n) ns)
 
--- ---- a circle put
-
 -- ---- a store that is written on
 
 -- at least as many circles over a store that holds circles
@@ -125,14 +122,6 @@ pub circles_of-stored : (cs : List Inscribed) (old : List Float) → circles_of 
 unfolding stored
 circles_of-stored cs old = circles-stored cs (drop (width * length cs) old)
 
-pub circle-sets : (ns : List Float) (k : ℕ) (c : Inscribed) → (k + 1) * width ≤ length ns
-    → set (set (set (set (set (set (set (set (set ns (k * width) c.cx) (k * width + 1) c.cy) (k * width + 2) c.r) (k * width + 3) c.p0x) (k * width + 4) c.p0y) (k * width + 5) c.p1x) (k * width + 6) c.p1y) (k * width + 7) c.l0) (k * width + 8) c.l1
-    ≡ with_circle ns k c
-unfolding with_circle numbers_of
-circle-sets ns k c h =
-    let i = k * width in
-    rw (add-one i, add-two i, add-three i, add-four i, add_five i, add_six i, add_seven i, add_eight i) (sets-eq (numbers_of c) ns i (omega arith))
-
 all_numbers-snoc : (cs : List Inscribed) (c : Inscribed) → all_numbers (cs ++ (c ∷ [])) ≡ all_numbers cs ++ numbers_of c
 unfolding all_numbers
 all_numbers-snoc [] c = append-nil (numbers_of c)
@@ -149,48 +138,30 @@ stored_push cs old c =
     let more : width * length (cs ++ (c ∷ [])) ≡ width * n + width = omega (arith, length-append cs (c ∷ [])) in
     rw (take_at (all_numbers cs) behind (n * width) (omega arith), whole, drop-append-add (all_numbers cs) behind width, drop-drop width (width * n) old, more, all_numbers-snoc cs c)
 
--- ---- the bad circles of a store, one by one
+-- ---- a test of each circle of a store
 
-pub circles_start : (ns : List Float) (count n : ℕ) → n ≡ min count (slots ns) → any_bad (circles_from ns 0 (n - 0)) ≡ bad_store ns count
-circles_start ns count n e = let z : n - 0 ≡ n = omega arith in rw (z, e)
+pub list_any-circles : (test : Inscribed → Bool) (ns : List Float) (k n : ℕ) → list_any (λ i. test (circle_at ns i)) (range_with_len k n) ≡ list_any test (circles_from ns k n)
+unfolding circles_from
+list_any-circles test ns k zero = refl
+list_any-circles test ns k (suc n) = rw (add-one k, list_any-circles test ns (suc k) n)
 
-module _ (ns : List Float) (k n : ℕ) (whole : Bool) (inv : any_bad (circles_from ns k (n - k)) ≡ whole) where
-  module _ (h : k < n) where
-    next : n - k ≡ suc (n - (k + 1))
-    next = omega arith
+pub any_bad_is : (cs : List Inscribed) → list_any bad_circle cs ≡ any_bad cs
+unfolding any_bad
+any_bad_is [] = refl
+any_bad_is (c ∷ cs) = rw (any_bad_is cs)
 
-    pub circle-bad : bad_circle (circle_at ns k) ≡ true → true ≡ whole
-    unfolding any_bad circles_from
-    circle-bad p = rw (next, p) at inv
+-- ---- a store that passed
 
-    pub circle_good : bad_circle (circle_at ns k) ≡ false → any_bad (circles_from ns (k + 1) (n - (k + 1))) ≡ whole
-    unfolding any_bad circles_from
-    circle_good p = rw (add-one k) (rw (next, p, add-one k) at inv)
+pub count_fits : (ns : List Float) (count : ℕ) → bad_store_count ns count ≡ false → (count * width ≤ length ns) × (count ≤ most_slots)
+count_fits ns count e = let h = ltb-false (slots ns) count e in (omega (arith, h), omega (arith, h))
 
-  pub circles_good : n ≤ k → false ≡ whole
-  unfolding any_bad circles_from
-  circles_good h = let z : n - k ≡ 0 = omega arith in rw z at inv
+module _ (ns : List Float) (count place : ℕ) (e : Ok tt ≡ circles_entry ns count place) where
+  pub part_bounds : (place ≤ count) × (count * width ≤ length ns)
+  unfolding circles_entry
+  part_bounds =
+      let fits = (none_bad ((BadNumber, bad_store ns count) ∷ (NoRoom, bad_store_count ns count || ltb count place) ∷ []) (sym e)).1.0 in
+      (ltb-false count place (or_right (bad_store_count ns count) _ fits), (count_fits ns count (or_left _ _ fits)).0)
 
--- ---- what can be handed out
-
-entry_bounds : (ns : List Float) (count place : ℕ) → circles_entry ns count place ≡ result tt → (place ≤ count) × (count * width ≤ length ns)
-unfolding circles_entry
-entry_bounds ns count place e = go (bad_store ns count) (bad_store_count ns count) (ltb count place) refl refl e
-  where
-    go : (a b d : Bool) → bad_store_count ns count ≡ b → ltb count place ≡ d → cond a (refusal BadNumber) (cond (b || d) (refusal NoRoom) (result (tt {0}))) ≡ result (tt {0}) → (place ≤ count) × (count * width ≤ length ns)
-    go true b d p q f = let z : ◌≡◌ {A = ℕ} 0 1 = cc in absurd (omega arith)
-    go false true d p q f = let z : ◌≡◌ {A = ℕ} 0 1 = cc in absurd (omega arith)
-    go false false true p q f = let z : ◌≡◌ {A = ℕ} 0 1 = cc in absurd (omega arith)
-    go false false false p q f = (ltb-false count place q, omega (arith, ltb-false (slots ns) count p))
-
-module _ (ns : List Float) (count place : ℕ) (r : Entry) (is : listed_entry r ≡ circles_entry ns count place) where
-  pub part_bounds : r ≡ Entry.Passed → (place ≤ count) × (count * width ≤ length ns)
-  part_bounds e = entry_bounds ns count place (sym (rw e at is))
-
-  pub part_passed : r ≡ Entry.Passed → take (count * width - place * width) (drop (place * width) ns) ≡ numbers_from ns count place
+  pub part_passed : take (count * width - place * width) (drop (place * width) ns) ≡ numbers_from ns count place
   unfolding numbers_from
-  part_passed e = let z : (count - place) * width ≡ count * width - place * width = omega arith in rw (← (rw e at is), z)
-
-  pub part_refused : (x : Refusal) → r ≡ Entry.Refused x → [] ≡ numbers_from ns count place
-  unfolding numbers_from
-  part_refused x e = rw (← (rw e at is))
+  part_passed = let z : (count - place) * width ≡ count * width - place * width = omega arith in rw (← e, z)

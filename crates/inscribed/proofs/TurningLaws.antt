@@ -61,7 +61,7 @@ pub record Turning (old : List Float) (whole : List Inscribed) (store : List Flo
   pub holds : store ≡ stored (front ++ (middle ++ back)) old
   pub left : front ++ (reverse middle ++ back) ≡ whole
 
-pub turn_start : (old : List Float) (n : ℕ) → n * width ≤ length old → Turning old (reverse (circles_of old n)) old 0 n
+pub turn_start : (old : List Float) (n : ℕ) → n * width ≤ length old → Turning old (reverse (circles_of old n)) old 0 (n - 0)
 turn_start old n h = record {
   front = [];
   middle = circles_of old n;
@@ -73,33 +73,19 @@ turn_start old n h = record {
 }
 
 module _ (old : List Float) (whole : List Inscribed) (store : List Float) (i j : ℕ) where
-  pub turn-over : Turning old whole store i j → j ≤ i → store ≡ stored whole old
-  turn-over t h = go t.middle t.middle_long t.holds t.left
+  -- one circle in the middle keeps its place
+  pub turn_over : Turning old whole store i j → j ≤ i + 1 → store ≡ stored whole old
+  turn_over t h = go t.middle t.middle_long t.holds t.left
     where
       go : (m : List Inscribed) → length m ≡ j - i → store ≡ stored (t.front ++ (m ++ t.back)) old → t.front ++ (reverse m ++ t.back) ≡ whole → store ≡ stored whole old
       go [] l s w = s ∙ ap (λ (x : List Inscribed). stored x old) w
-      go (x ∷ m) l s w = absurd (omega (arith, l))
+      go (x ∷ []) l s w = s ∙ ap (λ (x : List Inscribed). stored x old) w
+      go (x ∷ (y ∷ m)) l s w = absurd (omega (arith, l))
 
   abbrev swapped : List Float
   swapped = with_circle (with_circle store i (circle_at store (j - 1))) (j - 1) (circle_at store i)
 
   module _ (front back : List Inscribed) (long : length front ≡ i) where
-    step_one : (a : Inscribed) → 1 ≡ j - i → store ≡ stored (front ++ (a ∷ back)) old → front ++ (reverse (a ∷ []) ++ back) ≡ whole → Turning old whole swapped (i + 1) (j - 1)
-    step_one a l s w =
-        let k : j - 1 ≡ length front = omega (arith, long) in
-        let at : circle_at store (length front) ≡ a = rw s (get_stored front a back old) in
-        let moved : swapped ≡ stored (front ++ (a ∷ back)) old =
-        rw (k, ← long, at, s, put-stored front a a back old) (put-stored front a a back old) in
-        record {
-          front = front ++ (a ∷ []);
-          middle = [];
-          back = back;
-          front_long = omega (arith, length-append front (a ∷ []), long);
-          middle_long = omega arith;
-          holds = moved ∙ ap (λ (x : List Inscribed). stored x old) (sym (append_assoc front (a ∷ []) back));
-          left = append_assoc front (a ∷ []) back ∙ w;
-        }
-
     step_two : (a : Inscribed) (cs : List Inscribed) (b : Inscribed) → suc (suc (length cs)) ≡ j - i → store ≡ stored (front ++ (a ∷ (cs ++ (b ∷ [])) ++ back)) old → front ++ (reverse (a ∷ (cs ++ (b ∷ []))) ++ back) ≡ whole
         → Turning old whole swapped (i + 1) (j - 1)
     step_two a cs b l s w =
@@ -121,12 +107,12 @@ module _ (old : List Float) (whole : List Inscribed) (store : List Float) (i j :
           left = append_assoc front (b ∷ []) (reverse cs ++ (a ∷ back)) ∙ ap (λ (y : List Inscribed). front ++ (b ∷ y)) (sym (append_assoc (reverse cs) (a ∷ []) back)) ∙ ap (λ (y : List Inscribed). front ++ (y ++ back)) (sym (reverse-ends a cs b)) ∙ w;
         }
 
-  pub turn_step : Turning old whole store i j → i < j → Turning old whole swapped (i + 1) (j - 1)
+  pub turn_step : Turning old whole store i j → i + 1 < j → Turning old whole swapped (i + 1) (j - 1)
   turn_step t h = go t.middle t.middle_long t.holds t.left
     where
       go : (m : List Inscribed) → length m ≡ j - i → store ≡ stored (t.front ++ (m ++ t.back)) old → t.front ++ (reverse m ++ t.back) ≡ whole → Turning old whole swapped (i + 1) (j - 1)
       go [] l s w = absurd (omega (arith, l))
-      go (a ∷ []) l s w = step_one t.front t.back t.front_long a l s w
+      go (a ∷ []) l s w = absurd (omega (arith, l))
       go (a ∷ (x ∷ xs)) l s w =
           let e = snoc_of x xs in
           step_two t.front t.back t.front_long a e.before e.end (omega (arith, l, ap length e.is, length-append e.before (e.end ∷ []))) (rw (← e.is) s) (rw (← e.is) w)

@@ -1,6 +1,6 @@
 -- A circle: centre x, y, radius, contact p0 x, y, contact p1 x, y, then 02 (f): "the lengths along of the section's nearest points to p0 and to p1". Assumes nothing.
 use Rattle.std.specs.Prelude.{Float}
-use Rattle.errors.specs.Answer.{Answer, result, refusal}
+use Rattle.errors.specs.Answer.{Answer}
 use Rattle.points.specs.Points.{minus, rotated}
 use Rattle.points.specs.declared.Point2.{Point2}
 use Rattle.points.specs.declared.Vector2.{Vector2}
@@ -9,7 +9,6 @@ use Rattle.line2.specs.Rays.{ray_normalized}
 use Rattle.line2.specs.declared.surface2.SurfacePoint2.{SurfacePoint2}
 use Rattle.curve2.specs.Section.{point}
 use Rattle.inscribed.specs.declared.Inscribed.{Inscribed}
-use Rattle.inscribed.specs.declared.InscribedAnswer.{InscribedAnswer}
 
 abbrev pub center : Inscribed → Point2
 center c = point c.cx c.cy
@@ -34,7 +33,3 @@ camber_point c = ray_normalized (center c) (rotated Cw (contact_dir c))
 -- `reverse_points`: the contacts swapped; "Swapping contacts swaps them too."
 abbrev pub reversed_points : Inscribed → Inscribed
 reversed_points c = inscribed (center c) c.r (contact1 c) (contact0 c) c.l1 c.l0
-
-abbrev pub listed_inscribed : InscribedAnswer → Answer Inscribed
-listed_inscribed (InscribedAnswer.Value c) = result c
-listed_inscribed (InscribedAnswer.Refused r) = refusal r

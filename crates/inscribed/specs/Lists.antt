@@ -1,15 +1,14 @@
 -- What is told of a list of circles, and "turn order and contacts". Assumes nothing.
-use Rattle.std.specs.Prelude.{List, map, reverse, [], ◌∷◌, cond, ℕ, suc, pos, length, Float}
+use Rattle.std.specs.Prelude.{List, map, reverse, [], ◌∷◌, cond, ℕ, suc, pos, length, Float, Ok, Err}
 use Rattle.std.specs.Float.Ieee.{lt, of_int}
 use Rattle.std.specs.Float.{binary64}
 use Rattle.inscribed.specs.Circles.{reversed_points, center}
 use Rattle.inscribed.specs.declared.Inscribed.{Inscribed}
-use Rattle.errors.specs.Answer.{Answer, result, refusal, watched, ◌>>=◌}
+use Rattle.errors.specs.Answer.{Answer, watched, ◌>>=◌}
 use Rattle.errors.specs.Lists.{last_of}
 use Rattle.points.specs.Numbers.{◌+f◌, ◌/f◌, f0}
 use Rattle.points.specs.Points.{dist_of}
 use Rattle.inscribed.specs.declared.FrontAndBack.{FrontAndBack}
-use Rattle.inscribed.specs.declared.FrontAndBackAnswer.{FrontAndBackAnswer}
 use Rattle.errors.specs.declared.Refusal.TheVariants.{TooFewCircles}
 
 unfoldable pub turned : List Inscribed → List Inscribed
@@ -20,12 +19,8 @@ turned cs = reverse (map reversed_points cs)
 -- "the first and last inscribed circles, or an error if the collection is empty": 7; one circle is both
 unfoldable pub front_and_back : List Inscribed → Answer FrontAndBack
 unfolding last_of
-front_and_back [] = refusal TooFewCircles
-front_and_back (c ∷ cs) = result (record { front = c; back = last_of c cs })
-
-abbrev pub listed_ends : FrontAndBackAnswer → Answer FrontAndBack
-listed_ends (FrontAndBackAnswer.Value e) = result e
-listed_ends (FrontAndBackAnswer.Refused r) = refusal r
+front_and_back [] = Err TooFewCircles
+front_and_back (c ∷ cs) = Ok (record { front = c; back = last_of c cs })
 
 -- ---- `index_of_tmax`
 
@@ -51,12 +46,12 @@ spacing_after sum a b = dist_of (center b) (center a) >>= λ d. watched (sum +f 
 
 unfoldable pub spacing_sum : Float → Inscribed → List Inscribed → Answer Float
 unfolding spacing_after
-spacing_sum sum a [] = result sum
+spacing_sum sum a [] = Ok sum
 spacing_sum sum a (b ∷ cs) = spacing_after sum a b >>= λ next. spacing_sum next b cs
 
 -- "an average sums in order and divides once"; 7 for fewer than two circles
 unfoldable pub average_spacing : List Inscribed → Answer Float
 unfolding spacing_sum
-average_spacing [] = refusal TooFewCircles
-average_spacing (a ∷ []) = refusal TooFewCircles
-average_spacing (a ∷ (b ∷ cs)) = spacing_sum f0 a (b ∷ cs) >>= λ sum. result (sum /f of_int binary64 (pos (length (b ∷ cs))))
+average_spacing [] = Err TooFewCircles
+average_spacing (a ∷ []) = Err TooFewCircles
+average_spacing (a ∷ (b ∷ cs)) = spacing_sum f0 a (b ∷ cs) >>= λ sum. Ok (sum /f of_int binary64 (pos (length (b ∷ cs))))

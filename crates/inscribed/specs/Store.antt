@@ -1,11 +1,11 @@
 -- The store of circles: "the caller's f64 slice with a count of circles in use, packed from its start", its entry tests, and the circles from a stated place on. Assumes nothing.
-use Rattle.std.specs.Prelude.{Bool, false, not, ◌&&◌, ◌||◌, List, [], ◌∷◌, ◌++◌, ℕ, zero, suc, ◌+◌, ◌*◌, ◌/◌, min, ◌-◌, ltb, length, get_or, drop, take, Float}
+use Rattle.std.specs.Prelude.{Bool, false, not, ◌&&◌, ◌||◌, List, [], ◌∷◌, ◌++◌, ℕ, zero, suc, ◌+◌, ◌*◌, ◌/◌, min, ◌-◌, ltb, length, get_or, drop, take, Float, Ok, Err}
 use Rattle.std.specs.Float.{nan}
 use Rattle.std.specs.Float.Ieee.{lt}
 use Rattle.std.specs.Float.Ieee.Scale.{finite}
 use Rattle.points.specs.Numbers.{f0}
 use Rattle.inscribed.specs.declared.Inscribed.{Inscribed}
-use Rattle.errors.specs.Answer.{Answer, result, refusal}
+use Rattle.errors.specs.Answer.{Answer}
 use Rattle.curve2.specs.Entry.{tested}
 use Rattle.errors.specs.declared.Refusal.TheVariants.{BadNumber, NoRoom}
 
@@ -83,8 +83,8 @@ circles_entry ns count place = tested ((BadNumber, bad_store ns count) ∷ (NoRo
 
 -- numbers that are handed out only where the entry passed
 abbrev pub if_passed : Answer (Unit {0}) → List Float → List Float
-if_passed (result u) part = part
-if_passed (refusal r) part = []
+if_passed (Ok u) part = part
+if_passed (Err r) part = []
 
 -- the numbers of the circles in use from a place on
 unfoldable pub numbers_from : List Float → ℕ → ℕ → List Float

@@ -1,156 +1,117 @@
-// The circles of a store that passed the entry tests: one read or written, what is told of them, and their order and contacts turned.
-ghost use Rattle.std.specs.Prelude.{◌≡◌, map, reverse, ◌+◌, ◌*◌, ◌≤◌, length};
-ghost use Rattle.errors.specs.Answer.{listed_scalar};
+// The circles of a store: one read or written, what is told of those in use, and their order and contacts turned.
+ghost use Rattle.std.specs.Prelude.{◌≡◌, map, reverse, ◌+◌, ◌*◌, ◌≤◌, ◌<◌, length};
 ghost use Rattle.inscribed.specs.Circles.{reversed_points};
 ghost use Rattle.inscribed.specs.Store.{width, most_slots, circle_at, circles_of, stored};
 ghost use Rattle.inscribed.specs.Code.{with_circle};
-ghost use Rattle.inscribed.specs.Lists.{turned, front_and_back, tmax, spacing_after, average_spacing, listed_ends};
+ghost use Rattle.inscribed.specs.Lists.{turned, front_and_back, tmax, spacing_after, average_spacing};
 
 use crate::store::WIDTH;
-use crate::{FrontAndBack, FrontAndBackAnswer, Inscribed};
-use errors::{Refusal, ScalarAnswer};
+use crate::{FrontAndBack, Inscribed};
+use errors::Refusal;
+
+// The circles in use of a store: the store's numbers, and how many circles they are.
+#[derive(Clone, Copy)]
+pub struct CirclesInUse<'a> {
+    pub store: &'a [f64],
+    pub count: usize,
+    pub ghost in_store: { count * width ≤ length store.now },
+}
 
 // The circle in slot k.
+#[tactic(auto, unfolding(crate::specs::Store::circle_from))]
 pub fn circle_at(store: &[f64], k: usize) -> Inscribed
     requires { (k + 1) * width ≤ length store.now }
     ensures { result ≡ circle_at store.now k }
 {
     let i = k * WIDTH;
-    let i1 = i + 1;
-    let i2 = i + 2;
-    let i3 = i + 3;
-    let i4 = i + 4;
-    let i5 = i + 5;
-    let i6 = i + 6;
-    let i7 = i + 7;
-    let i8 = i + 8;
-    let cx = store[i];
-    let cy = store[i1];
-    let r = store[i2];
-    let p0x = store[i3];
-    let p0y = store[i4];
-    let p1x = store[i5];
-    let p1y = store[i6];
-    let l0 = store[i7];
-    let l1 = store[i8];
     Inscribed {
-        cx,
-        cy,
-        r,
-        p0x,
-        p0y,
-        p1x,
-        p1y,
-        l0,
-        l1,
+        cx: store[i],
+        cy: store[i + 1],
+        r: store[i + 2],
+        p0x: store[i + 3],
+        p0y: store[i + 4],
+        p1x: store[i + 5],
+        p1y: store[i + 6],
+        l0: store[i + 7],
+        l1: store[i + 8],
     }
 }
 
 // Writes a circle into slot k.
+#[tactic(auto, unfolding(crate::specs::Code::with_circle))]
 pub fn put_circle(store: &mut [f64], k: usize, c: Inscribed)
     requires { (k + 1) * width ≤ length store.old }
     ensures { store.new ≡ with_circle store.old k c }
 {
     let i = k * WIDTH;
-    let i1 = i + 1;
-    let i2 = i + 2;
-    let i3 = i + 3;
-    let i4 = i + 4;
-    let i5 = i + 5;
-    let i6 = i + 6;
-    let i7 = i + 7;
-    let i8 = i + 8;
-    store[i] = c.cx;
-    store[i1] = c.cy;
-    store[i2] = c.r;
-    store[i3] = c.p0x;
-    store[i4] = c.p0y;
-    store[i5] = c.p1x;
-    store[i6] = c.p1y;
-    store[i7] = c.l0;
-    store[i8] = c.l1;
-}
-
-// The first and the last circle: 7 where there is none.
-pub fn front_and_back(store: &[f64], count: usize) -> FrontAndBackAnswer
-    requires { count * width ≤ length store.now }
-    ensures { listed_ends result ≡ front_and_back (circles_of store.now count) }
-{
-    if count == 0 {
-        return FrontAndBackAnswer::Refused(Refusal::TooFewCircles);
-    }
-    let last = count - 1;
-    let front = circle_at(store, 0);
-    let back = circle_at(store, last);
-    let ends = FrontAndBack { front, back };
-    FrontAndBackAnswer::Value(ends)
-}
-
-// The place of the thickest circle, the last of equal ones.
-pub fn index_of_tmax(store: &[f64], count: usize) -> usize
-    requires { count * width ≤ length store.now }
-    ensures { result ≡ tmax (circles_of store.now count) }
-{
-    if count == 0 {
-        return 0;
-    }
-    let first = circle_at(store, 0);
-    let mut best: usize = 0;
-    let mut most = first.r;
-    let mut k: usize = 1;
-    while k < count {
-        let c = circle_at(store, k);
-        let r = c.r;
-        if r < most {
-            k += 1;
-            continue;
-        }
-        best = k;
-        most = r;
-        k += 1;
-    }
-    best
+    store[i..i + WIDTH].copy_from_slice(&c.numbers());
 }
 
 // The sum of distances after that of two neighbours.
-fn spacing_after(sum: f64, a: Inscribed, b: Inscribed) -> ScalarAnswer
-    ensures { listed_scalar result ≡ spacing_after sum a b }
+#[tactic(auto, unfolding(crate::specs::Lists::spacing_after))]
+fn spacing_after(sum: f64, a: Inscribed, b: Inscribed) -> Result<f64, Refusal>
+    ensures { result ≡ spacing_after sum a b }
 {
-    let p = a.center();
-    let q = b.center();
-    match points::dist(q, p) {
-        ScalarAnswer::Value(d) => errors::watch(sum + d),
-        ScalarAnswer::Refused(r) => ScalarAnswer::Refused(r),
-    }
+    let d = points::dist(b.center(), a.center())?;
+    errors::watch(sum + d)
 }
 
-// The mean distance of neighbouring centres: 7 for fewer than two circles.
-pub fn average_spacing(store: &[f64], count: usize) -> ScalarAnswer
-    requires { (count * width ≤ length store.now) × (count ≤ most_slots) }
-    ensures { listed_scalar result ≡ average_spacing (circles_of store.now count) }
-{
-    if count < 2 {
-        return ScalarAnswer::Refused(Refusal::TooFewCircles);
+impl CirclesInUse<'_> {
+    // The circle at a place.
+    pub fn at(&self, k: usize) -> Inscribed
+        requires { k < self.now.count }
+        ensures { result ≡ circle_at self.now.store.now k }
+    {
+        circle_at(self.store, k)
     }
-    let last = count - 1;
-    let mut sum: f64 = 0.0;
-    let mut k: usize = 0;
-    while k < last {
-        let next = k + 1;
-        let a = circle_at(store, k);
-        let b = circle_at(store, next);
-        match spacing_after(sum, a, b) {
-            ScalarAnswer::Value(s) => {
-                sum = s;
-                k = next;
-            }
-            ScalarAnswer::Refused(r) => {
-                return ScalarAnswer::Refused(r);
+
+    // The first and the last circle: 7 where there is none.
+    #[tactic(auto, using(crate::proofs::MeasureLaws::ends_are), unfolding(crate::specs::Lists::front_and_back, crate::specs::Store::circles_from))]
+    pub fn front_and_back(&self) -> Result<FrontAndBack, Refusal>
+        ensures { result ≡ front_and_back (circles_of self.now.store.now self.now.count) }
+    {
+        if self.count == 0 {
+            return Err(Refusal::TooFewCircles);
+        }
+        Ok(FrontAndBack {
+            front: self.at(0),
+            back: self.at(self.count - 1),
+        })
+    }
+
+    // The place of the thickest circle, the last of equal ones; 0 where there is none.
+    #[tactic(auto, using(crate::proofs::MeasureLaws::tmax_kept, crate::proofs::MeasureLaws::tmax_won, crate::proofs::MeasureLaws::tmax_over))]
+    pub fn index_of_tmax(&self) -> usize
+        ensures { result ≡ tmax (circles_of self.now.store.now self.now.count) }
+    {
+        let mut best = 0;
+        // No radius is less than a NaN, so the first circle wins.
+        let mut most = f64::NAN;
+        for k in 0..self.count {
+            let r = self.at(k).r;
+            if !(r < most) {
+                best = k;
+                most = r;
             }
         }
+        best
     }
-    let n = last as f64;
-    ScalarAnswer::Value(sum / n)
+
+    // The mean distance of neighbouring centres: 7 for fewer than two circles.
+    #[tactic(auto, using(crate::proofs::MeasureLaws::too_few))]
+    pub fn average_spacing(&self) -> Result<f64, Refusal>
+        requires { self.now.count ≤ most_slots }
+        ensures { result ≡ average_spacing (circles_of self.now.store.now self.now.count) }
+    {
+        if self.count < 2 {
+            return Err(Refusal::TooFewCircles);
+        }
+        let mut sum = 0.0;
+        for k in 0..self.count - 1 {
+            sum = spacing_after(sum, self.at(k), self.at(k + 1))?;
+        }
+        Ok(sum / (self.count - 1) as f64)
+    }
 }
 
 // Turns the order of the first circles of a store. Each keeps its contacts.
@@ -158,33 +119,28 @@ pub fn reverse_order_only(store: &mut [f64], count: usize)
     requires { count * width ≤ length store.old }
     ensures { store.new ≡ stored (reverse (circles_of store.old count)) store.old }
 {
-    let mut i: usize = 0;
-    let mut j = count;
-    while i < j {
-        j -= 1;
+    for i in 0..count / 2 {
+        let j = count - 1 - i;
         let a = circle_at(store, i);
         let b = circle_at(store, j);
         put_circle(store, i, b);
         put_circle(store, j, a);
-        i += 1;
     }
 }
 
 // Swaps the contacts of each of the first circles of a store.
+#[tactic(auto, using(crate::proofs::TurningLaws::swap_start, crate::proofs::TurningLaws::swap_step, crate::proofs::TurningLaws::swap_over))]
 pub fn reverse_points(store: &mut [f64], count: usize)
     requires { count * width ≤ length store.old }
     ensures { store.new ≡ stored (map reversed_points (circles_of store.old count)) store.old }
 {
-    let mut k: usize = 0;
-    while k < count {
-        let c = circle_at(store, k);
-        let swapped = c.reverse_points();
-        put_circle(store, k, swapped);
-        k += 1;
+    for k in 0..count {
+        put_circle(store, k, circle_at(store, k).reverse_points());
     }
 }
 
 // Turns the order of the first circles of a store, and swaps the contacts of each.
+#[tactic(auto, using(crate::proofs::TurningLaws::turn_both))]
 pub fn reverse_order(store: &mut [f64], count: usize)
     requires { count * width ≤ length store.old }
     ensures { store.new ≡ stored (turned (circles_of store.old count)) store.old }

@@ -5,15 +5,16 @@ pub mod checked;
 pub mod store;
 
 ghost use Rattle.std.specs.Prelude.{◌≡◌};
-ghost use Rattle.line2.specs.Rays.{listed_ray};
-ghost use Rattle.inscribed.specs.Circles.{center, contact_dir, camber_point, reversed_points};
+ghost use Rattle.inscribed.specs.Circles.{center, contact0, contact1, contact_dir, camber_point, reversed_points};
+ghost use Rattle.inscribed.specs.Store.{numbers_of};
 
 use errors::Refusal;
-use line2::surface2::{SurfacePoint2, SurfacePointAnswer};
+use line2::surface2::SurfacePoint2;
 use points::{AngleDir, Point2, Vector2};
+use store::WIDTH;
 
 // An inscribed circle: centre, radius, the two points where it touches the section, and the lengths along of the section's nearest points to these.
-#[derive(Clone, Copy)]
+#[derive(Clone, Copy, Default)]
 pub struct Inscribed {
     pub cx: f64,
     pub cy: f64,
@@ -26,13 +27,6 @@ pub struct Inscribed {
     pub l1: f64,
 }
 
-// A circle, or why there is none.
-#[derive(Clone, Copy)]
-pub enum InscribedAnswer {
-    Value(Inscribed),
-    Refused(Refusal),
-}
-
 // The first and the last circle of a list.
 #[derive(Clone, Copy)]
 pub struct FrontAndBack {
@@ -40,69 +34,71 @@ pub struct FrontAndBack {
     pub back: Inscribed,
 }
 
-// Both ends, or why there are none.
-#[derive(Clone, Copy)]
-pub enum FrontAndBackAnswer {
-    Value(FrontAndBack),
-    Refused(Refusal),
-}
-
 impl Inscribed {
     pub fn center(self) -> Point2
         ensures { result ≡ center self }
     {
-        let x = self.cx;
-        let y = self.cy;
-        Point2 { x, y }
+        Point2 {
+            x: self.cx,
+            y: self.cy,
+        }
+    }
+
+    pub fn contact0(self) -> Point2
+        ensures { result ≡ contact0 self }
+    {
+        Point2 {
+            x: self.p0x,
+            y: self.p0y,
+        }
+    }
+
+    pub fn contact1(self) -> Point2
+        ensures { result ≡ contact1 self }
+    {
+        Point2 {
+            x: self.p1x,
+            y: self.p1y,
+        }
     }
 
     // From the first contact to the second.
     pub fn contact_dir(self) -> Vector2
         ensures { result ≡ contact_dir self }
     {
-        let ax = self.p0x;
-        let ay = self.p0y;
-        let bx = self.p1x;
-        let by = self.p1y;
-        Vector2 {
-            x: bx - ax,
-            y: by - ay,
-        }
+        self.contact1() - self.contact0()
     }
 
     // The camber ray: at the centre, along the contact direction turned clockwise.
-    pub fn camber_point(self) -> SurfacePointAnswer
-        ensures { listed_ray result ≡ camber_point self }
+    #[tactic(auto, unfolding(crate::specs::Circles::camber_point))]
+    pub fn camber_point(self) -> Result<SurfacePoint2, Refusal>
+        ensures { result ≡ camber_point self }
     {
-        let o = self.center();
-        let d = self.contact_dir();
-        let n = d.rot90(AngleDir::Cw);
-        SurfacePoint2::new_normalize(o, n)
+        SurfacePoint2::new_normalize(self.center(), self.contact_dir().rot90(AngleDir::Cw))
     }
 
     // The circle with its contacts swapped, and their lengths along.
     pub fn reverse_points(self) -> Inscribed
         ensures { result ≡ reversed_points self }
     {
-        let cx = self.cx;
-        let cy = self.cy;
-        let r = self.r;
-        let p0x = self.p0x;
-        let p0y = self.p0y;
-        let p1x = self.p1x;
-        let p1y = self.p1y;
-        let l0 = self.l0;
-        let l1 = self.l1;
         Inscribed {
-            cx,
-            cy,
-            r,
-            p0x: p1x,
-            p0y: p1y,
-            p1x: p0x,
-            p1y: p0y,
-            l0: l1,
-            l1: l0,
+            p0x: self.p1x,
+            p0y: self.p1y,
+            p1x: self.p0x,
+            p1y: self.p0y,
+            l0: self.l1,
+            l1: self.l0,
+            ..self
         }
+    }
+
+    // The circle's numbers, as they stand in a store.
+    #[tactic(auto, unfolding(crate::specs::Store::numbers_of))]
+    pub fn numbers(self) -> [f64; WIDTH]
+        ensures { result ≡ numbers_of self }
+    {
+        [
+            self.cx, self.cy, self.r, self.p0x, self.p0y, self.p1x, self.p1y, self.l0, self.l1,
+        ]
     }
 }

@@ -1,13 +1,11 @@
 -- `intersection_param`: where a line meets the line of an edge. Assumes nothing.
-use Rattle.std.specs.Prelude.{cond, Float}
-use Rattle.std.proofs.Math.Option.{Option, some, none}
-use Rattle.errors.specs.Answer.{Answer, result, refusal, watched, ◌>>=◌}
+use Rattle.std.specs.Prelude.{cond, Float, Option, Some, None, Ok}
+use Rattle.errors.specs.Answer.{Answer, watched, ◌>>=◌}
 use Rattle.points.specs.Numbers.{◌-f◌, ◌*f◌, ◌/f◌, tiny, is_within}
 use Rattle.points.specs.Points.{minus}
 use Rattle.points.specs.declared.Vector2.{Vector2}
 use Rattle.line2.specs.declared.Line2.{Line2}
 use Rattle.line2.specs.declared.LineParams.{LineParams}
-use Rattle.line2.specs.declared.ParamsAnswer.{ParamsAnswer}
 
 -- Cramer's rule for a line (o, d) and an edge's line (v, e), with w = v - o
 
@@ -36,14 +34,7 @@ edge_fraction l k =
 unfoldable pub intersection_param : Line2 → Line2 → Answer (Option LineParams)
 intersection_param l k =
     watched (determinant l k) >>= λ det.
-    cond (is_within tiny det) (result none)
+    cond (is_within tiny det) (Ok None)
     (watched (line_fraction l k) >>= λ t.
     watched (edge_fraction l k) >>= λ s.
-    result (some (record { t = t; s = s })))
-
--- ---- what the answer lists: the fractions, none of parallel lines, or the refusal
-
-abbrev pub listed_params : ParamsAnswer → Answer (Option LineParams)
-listed_params (ParamsAnswer.Value p) = result (some p)
-listed_params ParamsAnswer.Parallel = result none
-listed_params (ParamsAnswer.Refused r) = refusal r
+    Ok (Some (record { t = t; s = s })))

@@ -1,7 +1,7 @@
 -- The end of a list of circles: its last two, `end_clip_line` and `end_camber_ray`. Assumes nothing.
-use Rattle.std.specs.Prelude.{cond, List, [], ◌∷◌}
+use Rattle.std.specs.Prelude.{cond, List, [], ◌∷◌, Ok, Err}
 use Rattle.std.specs.Float.Ieee.{lt}
-use Rattle.errors.specs.Answer.{Answer, result, refusal, ◌>>=◌}
+use Rattle.errors.specs.Answer.{Answer, ◌>>=◌}
 use Rattle.points.specs.Numbers.{f0}
 use Rattle.points.specs.Points.{rotated, difference, dot_of, mid_point_of}
 use Rattle.points.specs.declared.Vector2.{Vector2}
@@ -20,9 +20,9 @@ pair a b = record { before = a; last = b }
 
 -- 7: "fewer than two circles where two are needed"
 unfoldable pub last_pair : List Inscribed → Answer Pair
-last_pair [] = refusal TooFewCircles
-last_pair (a ∷ []) = refusal TooFewCircles
-last_pair (a ∷ (b ∷ [])) = result (pair a b)
+last_pair [] = Err TooFewCircles
+last_pair (a ∷ []) = Err TooFewCircles
+last_pair (a ∷ (b ∷ [])) = Ok (pair a b)
 last_pair (a ∷ (b ∷ (c ∷ cs))) = last_pair (b ∷ (c ∷ cs))
 
 -- the line through the middle of the contacts, along the contact direction turned, normalised
@@ -31,7 +31,7 @@ middle_line c = mid_point_of (contact1 c) (contact0 c) >>= λ o. line_normalized
 
 -- a line that faces away is reversed
 unfoldable pub faced_line : Vector2 → Line2 → Answer Line2
-faced_line facing l = dot_of facing l.direction >>= λ product. result (cond (lt product f0) (reversed_line l) l)
+faced_line facing l = dot_of facing l.direction >>= λ product. Ok (cond (lt product f0) (reversed_line l) l)
 
 -- `end_clip_line`, from the last two circles on: beyond it lies what is beyond the last circle
 unfoldable pub clip_line : Pair → Answer Line2

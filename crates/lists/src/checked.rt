@@ -1,19 +1,19 @@
 // The end of a list of circles in a store that passed the entry tests.
-ghost use Rattle.std.specs.Prelude.{◌≡◌, ◌*◌, ◌≤◌, length};
-ghost use Rattle.errors.specs.Answer.{result as answered};
-ghost use Rattle.inscribed.specs.Store.{width, circles_of};
+ghost use Rattle.std.specs.Prelude.{◌≡◌, ◌≤◌, Ok};
+ghost use Rattle.inscribed.specs.Store.{circles_of};
 ghost use Rattle.lists.specs.Ends.{last_pair};
 
 use crate::ends::Pair;
+use inscribed::checked::CirclesInUse;
 
-// The last two circles of a store that holds `count`.
-pub fn last_pair(store: &[f64], count: usize) -> Pair
-    requires { (2 ≤ count) × (count * width ≤ length store.now) }
-    ensures { last_pair (circles_of store.now count) ≡ answered result }
+// The last two circles.
+#[tactic(auto, using(crate::proofs::ends::Laws::last_pair_lem))]
+pub fn last_pair(circles: &CirclesInUse<'_>) -> Pair
+    requires { 2 ≤ circles.now.count }
+    ensures { last_pair (circles_of circles.now.store.now circles.now.count) ≡ Ok result }
 {
-    let j = count - 2;
-    let k = count - 1;
-    let before = inscribed::checked::circle_at(store, j);
-    let last = inscribed::checked::circle_at(store, k);
-    Pair { before, last }
+    Pair {
+        before: circles.at(circles.count - 2),
+        last: circles.at(circles.count - 1),
+    }
 }

@@ -1,14 +1,12 @@
 // The end of a list of circles: the line that clips it, and the ray on which the camber line leaves it.
 ghost use Rattle.std.specs.Prelude.{◌≡◌};
-ghost use Rattle.line2.specs.Lines.{listed_line};
-ghost use Rattle.line2.specs.Rays.{listed_ray};
 ghost use Rattle.lists.specs.Ends.{faced_line, middle_line, clip_line, end_camber_ray};
 
-use errors::ScalarAnswer;
+use errors::Refusal;
 use inscribed::Inscribed;
-use line2::surface2::{SurfacePoint2, SurfacePointAnswer};
-use line2::{Line2, LineAnswer};
-use points::{AngleDir, Point2, PointAnswer, Vector2, VectorAnswer};
+use line2::Line2;
+use line2::surface2::SurfacePoint2;
+use points::{AngleDir, Vector2};
 
 // The last two circles of a list.
 #[derive(Clone, Copy)]
@@ -18,67 +16,37 @@ pub struct Pair {
 }
 
 // The line through the middle of a circle's contacts, along the contact direction turned, normalised.
-fn middle_line(c: Inscribed) -> LineAnswer
-    ensures { listed_line result ≡ middle_line c }
+#[tactic(auto, unfolding(crate::specs::Ends::middle_line))]
+fn middle_line(c: Inscribed) -> Result<Line2, Refusal>
+    ensures { result ≡ middle_line c }
 {
-    let ax = c.p0x;
-    let ay = c.p0y;
-    let bx = c.p1x;
-    let by = c.p1y;
-    let a = Point2 { x: ax, y: ay };
-    let b = Point2 { x: bx, y: by };
-    let along = c.contact_dir();
-    let v = along.rot90(AngleDir::Ccw);
-    match points::mid_point(b, a) {
-        PointAnswer::Value(o) => Line2::new_normalize(o, v),
-        PointAnswer::Refused(r) => LineAnswer::Refused(r),
-    }
+    let o = points::mid_point(c.contact1(), c.contact0())?;
+    Line2::new_normalize(o, c.contact_dir().rot90(AngleDir::Ccw))
 }
 
 // The line, reversed where it faces away.
-fn faced_line(facing: Vector2, line: Line2) -> LineAnswer
-    ensures { listed_line result ≡ faced_line facing line }
+#[tactic(auto, unfolding(crate::specs::Ends::faced_line))]
+fn faced_line(facing: Vector2, line: Line2) -> Result<Line2, Refusal>
+    ensures { result ≡ faced_line facing line }
 {
-    let d = line.direction;
-    match facing.dot(d) {
-        ScalarAnswer::Value(product) => {
-            if product < 0.0 {
-                return LineAnswer::Value(line.reversed());
-            }
-            LineAnswer::Value(line)
-        }
-        ScalarAnswer::Refused(r) => LineAnswer::Refused(r),
-    }
+    let product = facing.dot(line.direction)?;
+    Ok(if product < 0.0 { line.reversed() } else { line })
 }
 
 // The line that clips the end of a list: a point that projects above zero lies beyond the last circle.
-pub fn clip_line(pair: Pair) -> LineAnswer
-    ensures { listed_line result ≡ clip_line pair }
+#[tactic(auto, unfolding(crate::specs::Ends::clip_line))]
+pub fn clip_line(pair: Pair) -> Result<Line2, Refusal>
+    ensures { result ≡ clip_line pair }
 {
-    let before = pair.before;
-    let last = pair.last;
-    let from = before.center();
-    let to = last.center();
-    match points::difference(to, from) {
-        VectorAnswer::Value(facing) => match middle_line(last) {
-            LineAnswer::Value(l) => faced_line(facing, l),
-            LineAnswer::Refused(r) => LineAnswer::Refused(r),
-        },
-        VectorAnswer::Refused(r) => LineAnswer::Refused(r),
-    }
+    let facing = points::difference(pair.last.center(), pair.before.center())?;
+    faced_line(facing, middle_line(pair.last)?)
 }
 
 // The outward ray at the end of the camber line.
-pub fn end_camber_ray(pair: Pair) -> SurfacePointAnswer
-    ensures { listed_ray result ≡ end_camber_ray pair }
+#[tactic(auto, unfolding(crate::specs::Ends::end_camber_ray))]
+pub fn end_camber_ray(pair: Pair) -> Result<SurfacePoint2, Refusal>
+    ensures { result ≡ end_camber_ray pair }
 {
-    let last = pair.last;
-    let o = last.center();
-    match clip_line(pair) {
-        LineAnswer::Value(clip) => {
-            let d = clip.direction;
-            SurfacePoint2::new_normalize(o, d)
-        }
-        LineAnswer::Refused(r) => SurfacePointAnswer::Refused(r),
-    }
+    let clip = clip_line(pair)?;
+    SurfacePoint2::new_normalize(pair.last.center(), clip.direction)
 }

@@ -5,119 +5,91 @@ pub mod checked;
 pub mod ends;
 pub mod records;
 
-ghost use Rattle.std.specs.Prelude.{◌≡◌, map, reverse};
-ghost use Rattle.errors.specs.Answer.{listed_scalar};
-ghost use Rattle.line2.specs.Lines.{listed_line};
-ghost use Rattle.curve2.specs.Entry.{listed_entry};
+ghost use Rattle.std.specs.Prelude.{◌≡◌, IfOk, map, reverse};
+ghost use Rattle.errors.specs.Answer.{passed};
 ghost use Rattle.inscribed.specs.Circles.{reversed_points};
-ghost use Rattle.inscribed.specs.Lists.{turned, listed_ends};
-ghost use Rattle.lists.specs.Asked.{store_entry, ends_asked, tmax_asked, spacing_asked, clip_asked, listed_place, Changed};
+ghost use Rattle.inscribed.specs.Lists.{turned};
+ghost use Rattle.lists.specs.Asked.{store_entry, ends_asked, tmax_asked, spacing_asked, clip_asked, Changed};
 
-use curve2::Entry;
-use errors::{Refusal, ScalarAnswer};
-use inscribed::FrontAndBackAnswer;
-use line2::LineAnswer;
+use errors::Refusal;
+use inscribed::FrontAndBack;
+use inscribed::checked::CirclesInUse;
+use line2::Line2;
 
-// A place in a list, or why there is none.
-#[derive(Clone, Copy)]
-pub enum PlaceAnswer {
-    Value(usize),
-    Refused(Refusal),
-}
-
-// The entry tests of a store with a stated count.
-pub(crate) fn check_store(store: &[f64], count: usize) -> Entry
-    ensures { listed_entry result ≡ store_entry store.now count }
+// The entry tests of a store with a stated count. The circles in use are handed on where they passed.
+#[tactic(auto, unfolding(crate::specs::Asked::store_entry))]
+fn store_entry(store: &[f64], count: usize) -> Result<CirclesInUse<'_>, Refusal>
+    ensures entry { passed result ≡ store_entry store.now count }
+    ensures lent { IfOk result (λ c. (c.store.now ≡ store.now) × (c.count ≡ count)) }
 {
     if inscribed::store::has_bad_circle(store, count) {
-        return Entry::Refused(Refusal::BadNumber);
+        Err(Refusal::BadNumber)
+    } else if inscribed::store::is_bad_store_count(store, count) {
+        Err(Refusal::NoRoom)
+    } else {
+        Ok(CirclesInUse { store, count })
     }
-    if inscribed::store::is_bad_store_count(store, count) {
-        return Entry::Refused(Refusal::NoRoom);
-    }
-    Entry::Passed
 }
 
 // The first and the last circle in use: 7 where there is none.
-pub fn front_and_back(store: &[f64], count: usize) -> FrontAndBackAnswer
-    ensures { listed_ends result ≡ ends_asked store.now count }
+#[tactic(auto, unfolding(crate::specs::Asked::ends_asked))]
+pub fn front_and_back(store: &[f64], count: usize) -> Result<FrontAndBack, Refusal>
+    ensures { result ≡ ends_asked store.now count }
 {
-    match check_store(store, count) {
-        Entry::Passed => inscribed::checked::front_and_back(store, count),
-        Entry::Refused(r) => FrontAndBackAnswer::Refused(r),
-    }
+    store_entry(store, count)?.front_and_back()
 }
 
 // The place of the thickest circle in use, the last of equal ones; 0 where there is none.
-pub fn index_of_tmax(store: &[f64], count: usize) -> PlaceAnswer
-    ensures { listed_place result ≡ tmax_asked store.now count }
+#[tactic(auto, unfolding(crate::specs::Asked::tmax_asked))]
+pub fn index_of_tmax(store: &[f64], count: usize) -> Result<usize, Refusal>
+    ensures { result ≡ tmax_asked store.now count }
 {
-    match check_store(store, count) {
-        Entry::Passed => PlaceAnswer::Value(inscribed::checked::index_of_tmax(store, count)),
-        Entry::Refused(r) => PlaceAnswer::Refused(r),
-    }
+    Ok(store_entry(store, count)?.index_of_tmax())
 }
 
 // The mean distance of neighbouring centres: 7 for fewer than two circles.
-pub fn average_spacing(store: &[f64], count: usize) -> ScalarAnswer
-    ensures { listed_scalar result ≡ spacing_asked store.now count }
+#[tactic(auto, using(crate::proofs::Laws::store_passed), unfolding(crate::specs::Asked::spacing_asked))]
+pub fn average_spacing(store: &[f64], count: usize) -> Result<f64, Refusal>
+    ensures { result ≡ spacing_asked store.now count }
 {
-    match check_store(store, count) {
-        Entry::Passed => inscribed::checked::average_spacing(store, count),
-        Entry::Refused(r) => ScalarAnswer::Refused(r),
-    }
+    store_entry(store, count)?.average_spacing()
 }
 
 // The line that clips the end of the circles in use: 7 for fewer than two circles.
-pub fn end_clip_line(store: &[f64], count: usize) -> LineAnswer
-    ensures { listed_line result ≡ clip_asked store.now count }
+#[tactic(auto, using(crate::proofs::ends::Laws::too_few), unfolding(crate::specs::Asked::clip_asked))]
+pub fn end_clip_line(store: &[f64], count: usize) -> Result<Line2, Refusal>
+    ensures { result ≡ clip_asked store.now count }
 {
-    match check_store(store, count) {
-        Entry::Passed => {
-            if count < 2 {
-                return LineAnswer::Refused(Refusal::TooFewCircles);
-            }
-            ends::clip_line(crate::checked::last_pair(store, count))
-        }
-        Entry::Refused(r) => LineAnswer::Refused(r),
+    let circles = store_entry(store, count)?;
+    if count < 2 {
+        return Err(Refusal::TooFewCircles);
     }
+    ends::clip_line(checked::last_pair(&circles))
 }
 
 // Swaps the contacts of every circle in use.
-pub fn reverse_points(store: &mut [f64], count: usize) -> Entry
+pub fn reverse_points(store: &mut [f64], count: usize) -> Result<(), Refusal>
     ensures { Changed (map reversed_points) store.old count store.new result }
 {
-    match check_store(store, count) {
-        Entry::Passed => {
-            inscribed::checked::reverse_points(store, count);
-            Entry::Passed
-        }
-        Entry::Refused(r) => Entry::Refused(r),
-    }
+    store_entry(store, count)?;
+    inscribed::checked::reverse_points(store, count);
+    Ok(())
 }
 
 // Turns the order of the circles in use, and swaps the contacts of each.
-pub fn reverse_order(store: &mut [f64], count: usize) -> Entry
+pub fn reverse_order(store: &mut [f64], count: usize) -> Result<(), Refusal>
     ensures { Changed turned store.old count store.new result }
 {
-    match check_store(store, count) {
-        Entry::Passed => {
-            inscribed::checked::reverse_order(store, count);
-            Entry::Passed
-        }
-        Entry::Refused(r) => Entry::Refused(r),
-    }
+    store_entry(store, count)?;
+    inscribed::checked::reverse_order(store, count);
+    Ok(())
 }
 
 // Turns the order of the circles in use. Each keeps its contacts.
-pub fn reverse_order_only(store: &mut [f64], count: usize) -> Entry
+pub fn reverse_order_only(store: &mut [f64], count: usize) -> Result<(), Refusal>
     ensures { Changed reverse store.old count store.new result }
 {
-    match check_store(store, count) {
-        Entry::Passed => {
-            inscribed::checked::reverse_order_only(store, count);
-            Entry::Passed
-        }
-        Entry::Refused(r) => Entry::Refused(r),
-    }
+    store_entry(store, count)?;
+    inscribed::checked::reverse_order_only(store, count);
+    Ok(())
 }

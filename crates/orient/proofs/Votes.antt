@@ -1,72 +1,77 @@
 -- The votes of a list, one after the other, and what they decide. Assumes nothing.
-use mathlib.Core.Path.{◌≡◌}
-use mathlib.Core.Bool.{Bool, true, false}
-use mathlib.Core.List.{List, [], ◌∷◌}
-use Prim.Native.Nat.{ℕ, suc, ◌+◌, ◌-◌, ◌≤◌, ◌<◌}
+use mathlib.Core.Path.{◌≡◌, refl, sym}
+use mathlib.Core.Bool.{Bool, true, false, cond}
+use mathlib.Core.List.{List, [], ◌∷◌, map}
+use Prim.Native.Nat.{ℕ, zero, suc, ◌+◌, ◌-◌, ◌≤◌, ◌<◌}
 use native.Mathlib.Numerals.{add-one}
 use native.Mathlib.Omega.{arith}
 use lib.Dec.{ltb}
-use lib.ListN.{length}
+use lib.ListN.{length, get_or, length-map}
 use lib.Ieee.{Float}
-use Rattle.errors.specs.Answer.{Answer, result, refusal}
+use Rattle.std.specs.Prelude.{Ok, Err}
+use Rattle.std.specs.List.{range_with_len}
+use Rattle.std.proofs.lemmas.List.FromFn.{length-range_with_len, fill_by_all}
+use Rattle.errors.specs.Answer.{Answer, ◌>>=◌}
 use Rattle.errors.specs.declared.Refusal.{Refusal}
 use Rattle.inscribed.specs.Store.{circle_at, circles_from, circles_of}
 use Rattle.inscribed.specs.declared.Inscribed.{Inscribed}
-use Rattle.inscribed.proofs.StoreLaws.{length-circles}
 use Rattle.orient.specs.Votes.{votes_from, majority}
 
--- ---- one vote
+-- ---- the votes of numbered items, one after the other
 
-module _ {A : Type 0} (vote : A → Answer Bool) (votes : ℕ) (x : A) (xs : List A) (whole : Answer ℕ) (inv : votes_from vote votes (x ∷ xs) ≡ whole) where
-  pub vote_yes : (b : Bool) → result b ≡ vote x → b ≡ true → votes_from vote (votes + 1) xs ≡ whole
-  unfolding votes_from
-  vote_yes b e t = rw (add-one votes) (rw (← e, t) at inv)
-
-  pub vote_no : (b : Bool) → result b ≡ vote x → b ≡ false → votes_from vote votes xs ≡ whole
-  unfolding votes_from
-  vote_no b e t = rw (← e, t) at inv
-
-  pub vote-refused : (n : Refusal) → refusal n ≡ vote x → refusal n ≡ whole
-  unfolding votes_from
-  vote-refused n e = rw (← e) at inv
-
-pub votes_over : {A : Type 0} (vote : A → Answer Bool) (votes : ℕ) (xs : List A) (whole : Answer ℕ) → votes_from vote votes xs ≡ whole → xs ≡ [] → result votes ≡ whole
-unfolding votes_from
-votes_over vote votes xs whole inv e = rw e at inv
-
--- ---- what the votes decide
-
-pub votes_decide : {A : Type 0} (vote : A → Answer Bool) (xs : List A) (count votes : ℕ) → length xs ≡ count → result votes ≡ votes_from vote 0 xs → result (ltb (count - votes) votes) ≡ majority vote xs
-unfolding majority
-votes_decide vote xs count votes l e = rw (← e, l)
-
-pub votes_refused : {A : Type 0} (vote : A → Answer Bool) (xs : List A) (n : Refusal) → refusal n ≡ votes_from vote 0 xs → refusal n ≡ majority vote xs
-unfolding majority
-votes_refused vote xs n e = rw (← e)
-
--- ---- the votes of the circles of a store
-
-pub circles_start : (vote : Inscribed → Answer Bool) (ns : List Float) (count : ℕ) → votes_from vote 0 (circles_from ns 0 (count - 0)) ≡ votes_from vote 0 (circles_of ns count)
-circles_start vote ns count = let z : count - 0 ≡ count = omega arith in rw z
-
-module _ (vote : Inscribed → Answer Bool) (ns : List Float) (count votes k : ℕ) (whole : Answer ℕ) (inv : votes_from vote votes (circles_from ns k (count - k)) ≡ whole) where
+module _ (v : ℕ → Answer Bool) (count votes k : ℕ) (whole : Answer ℕ) (inv : votes_from v votes (range_with_len k (count - k)) ≡ whole) where
   module _ (h : k < count) where
-    next : votes_from vote votes (circle_at ns k ∷ circles_from ns (k + 1) (count - (k + 1))) ≡ whole
-    unfolding circles_from
-    next = let z : count - k ≡ suc (count - (k + 1)) = omega arith in rw (add-one k) (rw (z, add-one k) at inv)
+    next : votes_from v votes (k ∷ range_with_len (k + 1) (count - (k + 1))) ≡ whole
+    next = let z : count - k ≡ suc (count - (k + 1)) = omega arith in rw z at inv
 
-    pub circle_yes : (b : Bool) → result b ≡ vote (circle_at ns k) → b ≡ true → votes_from vote (votes + 1) (circles_from ns (k + 1) (count - (k + 1))) ≡ whole
-    circle_yes = vote_yes vote votes (circle_at ns k) (circles_from ns (k + 1) (count - (k + 1))) whole next
+    pub vote_yes : Ok true ≡ v k → votes_from v (votes + 1) (range_with_len (k + 1) (count - (k + 1))) ≡ whole
+    unfolding votes_from
+    vote_yes e = rw (add-one votes) (rw (← e) at next)
 
-    pub circle_no : (b : Bool) → result b ≡ vote (circle_at ns k) → b ≡ false → votes_from vote votes (circles_from ns (k + 1) (count - (k + 1))) ≡ whole
-    circle_no = vote_no vote votes (circle_at ns k) (circles_from ns (k + 1) (count - (k + 1))) whole next
+    pub vote_no : Ok false ≡ v k → votes_from v votes (range_with_len (k + 1) (count - (k + 1))) ≡ whole
+    unfolding votes_from
+    vote_no e = rw (← e) at next
 
-    pub circle-refused : (n : Refusal) → refusal n ≡ vote (circle_at ns k) → refusal n ≡ whole
-    circle-refused = vote-refused vote votes (circle_at ns k) (circles_from ns (k + 1) (count - (k + 1))) whole next
+    pub vote_refused : (n : Refusal) → Err n ≡ v k → Err n ≡ whole
+    unfolding votes_from
+    vote_refused n e = rw (← e) at next
 
-  pub circles-over : count ≤ k → result votes ≡ whole
-  unfolding circles_from
-  circles-over h = let z : count - k ≡ 0 = omega arith in votes_over vote votes (circles_from ns k (count - k)) whole inv (rw z)
+  pub votes_over : count ≤ k → Ok votes ≡ whole
+  unfolding votes_from
+  votes_over h = let z : count - k ≡ 0 = omega arith in rw z at inv
 
-pub circles_decide : (vote : Inscribed → Answer Bool) (ns : List Float) (count votes : ℕ) → result votes ≡ votes_from vote 0 (circles_of ns count) → result (ltb (count - votes) votes) ≡ majority vote (circles_of ns count)
-circles_decide vote ns count votes e = votes_decide vote (circles_of ns count) count votes (length-circles ns 0 count) e
+pub votes_decide : (v : ℕ → Answer Bool) (count votes : ℕ) → Ok votes ≡ votes_from v 0 (range_with_len 0 count) → Ok (ltb (count - votes) votes) ≡ majority v (range_with_len 0 count)
+unfolding majority
+votes_decide v count votes e = rw (← e, length-range_with_len 0 count)
+
+pub majority_refused : (v : ℕ → Answer Bool) (count : ℕ) (n : Refusal) → Err n ≡ votes_from v 0 (range_with_len 0 count) → Err n ≡ majority v (range_with_len 0 count)
+unfolding majority
+majority_refused v count n e = rw (← e)
+
+-- ---- the items by their numbers
+
+module _ {A : Type 0} (vote : A → Answer Bool) (at : ℕ → A) where
+  votes_of_map : (xs : List ℕ) (votes : ℕ) → votes_from (λ k. vote (at k)) votes xs ≡ votes_from vote votes (map at xs)
+  unfolding votes_from
+  votes_of_map [] votes = refl
+  votes_of_map (x ∷ xs) votes = go (vote (at x)) (votes_of_map xs)
+    where
+      go : (a : Answer Bool) → ((n : ℕ) → votes_from (λ k. vote (at k)) n xs ≡ votes_from vote n (map at xs))
+          → (a >>= λ yes. votes_from (λ k. vote (at k)) (cond yes (suc votes) votes) xs) ≡ (a >>= λ yes. votes_from vote (cond yes (suc votes) votes) (map at xs))
+      go (Ok b) more = more (cond b (suc votes) votes)
+      go (Err n) more = refl
+
+  majority_of_map : (xs : List ℕ) (ys : List A) → map at xs ≡ ys → majority (λ k. vote (at k)) xs ≡ majority vote ys
+  unfolding majority
+  majority_of_map xs ys e = rw (← e, votes_of_map xs 0, length-map xs at)
+
+circles_by_number : (ns : List Float) (k n : ℕ) → map (circle_at ns) (range_with_len k n) ≡ circles_from ns k n
+unfolding circles_from
+circles_by_number ns k zero = refl
+circles_by_number ns k (suc n) = rw (add-one k, circles_by_number ns (suc k) n)
+
+pub majority_of_circles : (vote : Inscribed → Answer Bool) (ns : List Float) (n : ℕ) → majority (λ k. vote (circle_at ns k)) (range_with_len 0 n) ≡ majority vote (circles_of ns n)
+majority_of_circles vote ns n = majority_of_map vote (circle_at ns) (range_with_len 0 n) (circles_of ns n) (circles_by_number ns 0 n)
+
+pub majority_of_items : {A : Type 0} (vote : A → Answer Bool) (xs : List A) (d : A) → majority (λ k. vote (get_or xs k d)) (range_with_len 0 (length xs)) ≡ majority vote xs
+majority_of_items vote xs d = majority_of_map vote (λ k. get_or xs k d) (range_with_len 0 (length xs)) xs (sym (fill_by_all (λ k. get_or xs k d) xs (length xs) d refl (λ k h. refl)))

@@ -1,8 +1,8 @@
 -- `check_curvature_upper`: the side of its chord on which more samples of the camber lie is the upper side. Assumes nothing.
-use Rattle.std.specs.Prelude.{Bool, not, cond, List, [], ◌∷◌, ℕ, zero, suc, ◌-◌, eqb, pos, Float}
+use Rattle.std.specs.Prelude.{Bool, not, cond, List, [], ◌∷◌, ℕ, zero, suc, ◌-◌, eqb, pos, Float, Ok, Err}
 use Rattle.std.specs.Float.Ieee.{of_int}
 use Rattle.std.specs.Float.{binary64}
-use Rattle.errors.specs.Answer.{Answer, result, refusal, watched, ◌>>=◌}
+use Rattle.errors.specs.Answer.{Answer, watched, ◌>>=◌}
 use Rattle.errors.specs.Numbers.{is_plus}
 use Rattle.points.specs.Numbers.{◌*f◌, ◌/f◌}
 use Rattle.points.specs.declared.Point2.{Point2}
@@ -36,7 +36,7 @@ unfoldable pub sample_inside : Camber → Float → ℕ → Answer Point2
 sample_inside camber whole i =
     sample_length whole i >>= λ along.
     at_length camber.numbers camber.tolerance along >>= λ station.
-    result station.point
+    Ok station.point
 
 -- the ends of a curve by its numbers
 abbrev pub front_of : List Float → Point2
@@ -48,27 +48,27 @@ back_of ns = vertex ns (last_vertex ns)
 -- "the first and last are the camber's ends"
 unfoldable pub sample_at : Camber → Float → ℕ → Answer Point2
 sample_at camber whole i =
-    cond (eqb i 0) (result (front_of camber.numbers))
-    (cond (eqb i last_sample) (result (back_of camber.numbers))
+    cond (eqb i 0) (Ok (front_of camber.numbers))
+    (cond (eqb i last_sample) (Ok (back_of camber.numbers))
     (sample_inside camber whole i))
 
 -- n samples from sample i on
 unfoldable pub samples_from : Camber → Float → ℕ → ℕ → Answer (List Point2)
 unfolding sample_at
-samples_from camber whole i zero = result []
-samples_from camber whole i (suc n) = sample_at camber whole i >>= λ p. samples_from camber whole (suc i) n >>= λ ps. result (p ∷ ps)
+samples_from camber whole i zero = Ok []
+samples_from camber whole i (suc n) = sample_at camber whole i >>= λ p. samples_from camber whole (suc i) n >>= λ ps. Ok (p ∷ ps)
 
 -- "all fifty are used, none dropped"; "a camber whose ends lie within its tolerance of each other gives 11"
 unfoldable pub samples_of : Camber → Answer (List Point2)
 samples_of camber =
-    cond (is_closed camber.numbers camber.tolerance) (refusal ZeroLength)
+    cond (is_closed camber.numbers camber.tolerance) (Err ZeroLength)
     (watched (whole_length camber.numbers) >>= λ whole. samples_from camber whole 0 sample_count)
 
 -- ---- the upper side
 
 -- to the right of a line: the sign bit of `signed_distance_to` is clear
 unfoldable pub is_right : Line2 → Point2 → Answer Bool
-is_right line p = signed_distance line p >>= λ d. result (is_plus d)
+is_right line p = signed_distance line p >>= λ d. Ok (is_plus d)
 
 -- the chord goes from the first sample to the last, the camber's ends
 unfoldable pub right_of_chord : List Float → List Point2 → Answer Bool
@@ -86,7 +86,7 @@ unfoldable pub side_vote : List Float → Bool → Inscribed → Answer Bool
 side_vote ns right c =
     at_closest ns (center c) >>= λ station.
     ray_projection (surface_of station) (contact1 c) >>= λ d.
-    result (cond right (not (is_plus d)) (is_plus d))
+    Ok (cond right (not (is_plus d)) (is_plus d))
 
 unfoldable pub curvature_on : List Inscribed → Camber → Answer Bool
 curvature_on cs camber = upper_to_right camber >>= λ right. majority (side_vote camber.numbers right) cs

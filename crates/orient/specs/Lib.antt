@@ -3,4 +3,3 @@ pub mod Votes
 pub mod Camber
 pub mod Curvature
 pub mod Orientation
-pub mod Code

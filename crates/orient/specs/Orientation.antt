@@ -1,10 +1,9 @@
 -- "`OrientFwdAft` is by greatest radius, by an airflow vector or by a forward vector; `OrientUpperLower` by an upper or a lower vector", or by curvature. Assumes nothing.
-use Rattle.std.specs.Prelude.{Bool, not, false, true, ◌&&◌, ◌||◌, List, [], ◌∷◌, map, reverse, ◌≡◌, ℕ, ltb, get_or, Float}
+use Rattle.std.specs.Prelude.{Bool, not, false, true, ◌||◌, List, [], ◌∷◌, map, reverse, ◌≡◌, ℕ, ltb, get_or, Float, Ok, Err}
 use Rattle.std.specs.Float.Ieee.{lt}
-use Rattle.std.specs.Float.Ieee.Scale.{finite}
-use Rattle.errors.specs.Answer.{Answer, result, ◌>>=◌, watched, refusal}
+use Rattle.errors.specs.Answer.{Answer, ◌>>=◌, watched}
 use Rattle.errors.specs.Numbers.{is_plus}
-use Rattle.points.specs.Points.{dot_of, negated}
+use Rattle.points.specs.Points.{finite_vector, dot_of, negated}
 use Rattle.points.specs.declared.Vector2.{Vector2}
 use Rattle.inscribed.specs.Circles.{contact_dir, center, reversed_points}
 use Rattle.inscribed.specs.declared.Inscribed.{Inscribed}
@@ -14,8 +13,6 @@ use Rattle.curve2.specs.Section.{whole_length}
 use Rattle.sections.specs.Places.{at_closest, length_along}
 use Rattle.inscribed.specs.Store.{circle_from, circles_of, stored, bad_store, bad_store_count}
 use Rattle.curve2.specs.Entry.{tested}
-use Rattle.sections.specs.Asked.{listed_bool}
-use Rattle.sections.specs.declared.BoolAnswer.{BoolAnswer}
 use Rattle.geometry.specs.Camber.{bad_centers}
 use Rattle.orient.specs.Votes.{majority}
 use Rattle.orient.specs.Camber.{Camber, camber_of}
@@ -33,7 +30,7 @@ unfoldable pub center_dot : Vector2 → Inscribed → Answer Float
 center_dot dir c = dot_of dir (record { x = c.cx; y = c.cy })
 
 unfoldable pub less_forward : Vector2 → Inscribed → Inscribed → Answer Bool
-less_forward dir front back = center_dot dir front >>= λ a. center_dot dir back >>= λ b. result (lt a b)
+less_forward dir front back = center_dot dir front >>= λ a. center_dot dir back >>= λ b. Ok (lt a b)
 
 -- turned if the front lies less far forward than the back
 unfoldable pub dir_fwd : Vector2 → List Inscribed → Answer Bool
@@ -43,7 +40,7 @@ dir_fwd dir cs = front_and_back cs >>= λ ends. less_forward dir ends.front ends
 
 -- a circle votes for swapping where the product's sign bit is set
 unfoldable pub vote_of : Vector2 → Inscribed → Answer Bool
-vote_of dir c = dot_of dir (contact_dir c) >>= λ d. result (not (is_plus d))
+vote_of dir c = dot_of dir (contact_dir c) >>= λ d. Ok (not (is_plus d))
 
 -- swapped if more circles vote for it than don't
 unfoldable pub dir_upper : Vector2 → List Inscribed → Answer Bool
@@ -58,7 +55,7 @@ thickest cs = get_or cs (tmax cs) (circle_from [] 0)
 
 -- a length along a curve that isn't less than half of the whole; `ns` are the curve's numbers
 unfoldable pub behind_half : List Float → Float → Answer Bool
-behind_half ns along = watched (whole_length ns) >>= λ whole. result (not (lt along (whole *f f½)))
+behind_half ns along = watched (whole_length ns) >>= λ whole. Ok (not (lt along (whole *f f½)))
 
 -- the place of c on the curve is that of the nearest station to its centre
 unfoldable pub in_back_half : List Float → Inscribed → Answer Bool
@@ -80,9 +77,6 @@ unfoldable pub curvature_upper : List Inscribed → Answer Bool
 curvature_upper cs = camber_of cs >>= λ camber. curvature_on cs camber
 
 -- ---- the entry tests
-
-abbrev pub finite_vector : Vector2 → Bool
-finite_vector v = finite v.x && finite v.y
 
 -- 2, 4, then 7; `bad` is what fails by 2 beside the store
 unfoldable pub orient_entry : List Float → ℕ → Bool → Answer (Unit {0})
@@ -127,9 +121,9 @@ upper_asked how ns count = orient_entry ns count (bad_upper how ns count) >>= λ
 
 -- f of the circles in use where the answer is yes; "all refusals of .. orientation, change no memory"
 abbrev pub changed_if : (List Inscribed → List Inscribed) → Answer Bool → List Float → ℕ → List Float
-changed_if f (result true) ns count = stored (f (circles_of ns count)) ns
-changed_if f (result false) ns count = ns
-changed_if f (refusal r) ns count = ns
+changed_if f (Ok true) ns count = stored (f (circles_of ns count)) ns
+changed_if f (Ok false) ns count = ns
+changed_if f (Err r) ns count = ns
 
 -- forward and aft the order is turned, upper and lower the contacts are swapped
 abbrev pub fwd_store : OrientFwdAft → List Float → ℕ → List Float
@@ -139,6 +133,6 @@ abbrev pub upper_store : OrientUpperLower → List Float → ℕ → List Float
 upper_store how ns count = changed_if (map reversed_points) (upper_asked how ns count) ns count
 
 -- Both together: the answer r of a call, and the store before and after it.
-pub record Oriented (f : List Inscribed → List Inscribed) (answer : Answer Bool) (old : List Float) (count : ℕ) (new : List Float) (r : BoolAnswer) : Type 0 where
-  pub listed : listed_bool r ≡ answer
+pub record Oriented (f : List Inscribed → List Inscribed) (answer : Answer Bool) (old : List Float) (count : ℕ) (new : List Float) (r : Answer Bool) : Type 0 where
+  pub listed : r ≡ answer
   pub output : new ≡ changed_if f answer old count

@@ -1,87 +1,53 @@
-// The checks by a vector, on the circles of a store whose count has been tested: whether they have to be turned, or their contacts swapped.
-ghost use Rattle.std.specs.Prelude.{◌≡◌, ◌*◌, ◌≤◌, length};
-ghost use Rattle.errors.specs.Answer.{listed_scalar};
-ghost use Rattle.inscribed.specs.Store.{width, circles_of};
-ghost use Rattle.sections.specs.Asked.{listed_bool};
+// The checks by a vector, on circles in use: whether they have to be turned, or their contacts swapped.
+ghost use Rattle.std.specs.Prelude.{◌≡◌};
+ghost use Rattle.inscribed.specs.Store.{circles_of};
 ghost use Rattle.orient.specs.Orientation.{center_dot, less_forward, dir_fwd, vote_of, dir_upper};
 
-use errors::ScalarAnswer;
-use inscribed::{FrontAndBackAnswer, Inscribed};
+use crate::voting::is_majority;
+use errors::Refusal;
+use inscribed::Inscribed;
+use inscribed::checked::CirclesInUse;
 use points::Vector2;
-use sections::BoolAnswer;
 
 // A centre's coordinates against a direction.
-fn center_dot(dir: Vector2, c: Inscribed) -> ScalarAnswer
-    ensures { listed_scalar result ≡ center_dot dir c }
+#[tactic(auto, unfolding(crate::specs::Orientation::center_dot))]
+fn center_dot(dir: Vector2, c: Inscribed) -> Result<f64, Refusal>
+    ensures { result ≡ center_dot dir c }
 {
-    let x = c.cx;
-    let y = c.cy;
-    let v = Vector2 { x, y };
-    dir.dot(v)
+    dir.dot(Vector2 { x: c.cx, y: c.cy })
 }
 
 // Whether the front lies less far in a direction than the back.
-fn less_forward(dir: Vector2, front: Inscribed, back: Inscribed) -> BoolAnswer
-    ensures { listed_bool result ≡ less_forward dir front back }
+#[tactic(auto, unfolding(crate::specs::Orientation::less_forward))]
+fn less_forward(dir: Vector2, front: Inscribed, back: Inscribed) -> Result<bool, Refusal>
+    ensures { result ≡ less_forward dir front back }
 {
-    match center_dot(dir, front) {
-        ScalarAnswer::Value(a) => match center_dot(dir, back) {
-            ScalarAnswer::Value(b) => BoolAnswer::Value(a < b),
-            ScalarAnswer::Refused(r) => BoolAnswer::Refused(r),
-        },
-        ScalarAnswer::Refused(r) => BoolAnswer::Refused(r),
-    }
+    let a = center_dot(dir, front)?;
+    let b = center_dot(dir, back)?;
+    Ok(a < b)
 }
 
 // By a vector that points forward.
-pub(crate) fn check_dir_fwd(store: &[f64], count: usize, dir: Vector2) -> BoolAnswer
-    requires { count * width ≤ length store.now }
-    ensures { listed_bool result ≡ dir_fwd dir (circles_of store.now count) }
+#[tactic(auto, unfolding(crate::specs::Orientation::dir_fwd))]
+pub(crate) fn check_dir_fwd(circles: &CirclesInUse<'_>, dir: Vector2) -> Result<bool, Refusal>
+    ensures { result ≡ dir_fwd dir (circles_of circles.now.store.now circles.now.count) }
 {
-    match inscribed::checked::front_and_back(store, count) {
-        FrontAndBackAnswer::Value(ends) => {
-            let front = ends.front;
-            let back = ends.back;
-            less_forward(dir, front, back)
-        }
-        FrontAndBackAnswer::Refused(r) => BoolAnswer::Refused(r),
-    }
+    let ends = circles.front_and_back()?;
+    less_forward(dir, ends.front, ends.back)
 }
 
 // Whether a circle votes for its contacts to be swapped.
-fn vote(dir: Vector2, c: Inscribed) -> BoolAnswer
-    ensures { listed_bool result ≡ vote_of dir c }
+#[tactic(auto, unfolding(crate::specs::Orientation::vote_of))]
+fn vote(dir: Vector2, c: Inscribed) -> Result<bool, Refusal>
+    ensures { result ≡ vote_of dir c }
 {
-    let d = c.contact_dir();
-    match dir.dot(d) {
-        ScalarAnswer::Value(x) => BoolAnswer::Value(!errors::is_plus(x)),
-        ScalarAnswer::Refused(r) => BoolAnswer::Refused(r),
-    }
+    Ok(!errors::is_plus(dir.dot(c.contact_dir())?))
 }
 
 // By a vector that points to the upper side.
-pub(crate) fn check_dir_upper(store: &[f64], count: usize, dir: Vector2) -> BoolAnswer
-    requires { count * width ≤ length store.now }
-    ensures { listed_bool result ≡ dir_upper dir (circles_of store.now count) }
+#[tactic(auto, unfolding(crate::specs::Orientation::dir_upper))]
+pub(crate) fn check_dir_upper(circles: &CirclesInUse<'_>, dir: Vector2) -> Result<bool, Refusal>
+    ensures { result ≡ dir_upper dir (circles_of circles.now.store.now circles.now.count) }
 {
-    let mut votes: usize = 0;
-    let mut k: usize = 0;
-    while k < count {
-        let c = inscribed::checked::circle_at(store, k);
-        match vote(dir, c) {
-            BoolAnswer::Value(flip) => {
-                if flip {
-                    votes += 1;
-                    k += 1;
-                    continue;
-                }
-                k += 1;
-            }
-            BoolAnswer::Refused(r) => {
-                return BoolAnswer::Refused(r);
-            }
-        }
-    }
-    let kept = count - votes;
-    BoolAnswer::Value(kept < votes)
+    is_majority(circles.count, |k| vote(dir, circles.at(k)))
 }

@@ -5,21 +5,20 @@ mod camber;
 mod checks;
 mod curvature;
 mod tmax;
+mod voting;
 
-ghost use Rattle.std.specs.Prelude.{◌≡◌, map, reverse, ◌*◌, ◌≤◌, length};
-ghost use Rattle.points.specs.Points.{negated};
-ghost use Rattle.curve2.specs.Entry.{listed_entry};
+ghost use Rattle.std.specs.Prelude.{◌≡◌, IfOk, map, reverse, ◌≤◌};
+ghost use Rattle.errors.specs.Answer.{passed};
 ghost use Rattle.inscribed.specs.Circles.{reversed_points};
-ghost use Rattle.inscribed.specs.Store.{width, most_slots, circles_of};
-ghost use Rattle.sections.specs.Asked.{listed_bool};
-ghost use Rattle.orient.specs.Orientation.{finite_vector, orient_entry, bad_fwd, turn_of, fwd_asked, bad_upper, swap_of, upper_asked, Oriented};
+ghost use Rattle.inscribed.specs.Store.{most_slots, circles_of};
+ghost use Rattle.orient.specs.Orientation.{orient_entry, bad_fwd, turn_of, fwd_asked, bad_upper, swap_of, upper_asked, Oriented};
 
-use camber::CamberCheck;
-use curve2::Entry;
-use errors::Refusal;
-use geometry::centers;
+use camber::{MOST_NUMBERS, camber_curve};
+use errors::{Finite, Refusal};
+use geometry::centers::has_bad_center;
+use inscribed::checked::{CirclesInUse, reverse_order_only, reverse_points};
+use inscribed::store;
 use points::Vector2;
-use sections::BoolAnswer;
 
 // How the leading edge is told: by greatest radius, by the direction of the airflow, or by a direction that points forward.
 #[derive(Clone, Copy)]
@@ -37,43 +36,21 @@ pub enum OrientUpperLower {
     Lower(Vector2),
 }
 
-fn is_finite_vector(v: Vector2) -> bool
-    ensures { result ≡ finite_vector v }
+// The entry tests, with what fails by 2 beside the store. The circles in use are handed on where they passed.
+#[tactic(auto, unfolding(crate::specs::Orientation::orient_entry))]
+fn entered(store: &[f64], count: usize, bad: bool) -> Result<CirclesInUse<'_>, Refusal>
+    ensures entry { passed result ≡ orient_entry store.now count bad }
+    ensures lent { IfOk result (λ c. (c.store.now ≡ store.now) × (c.count ≡ count)) }
 {
-    let x = v.x;
-    let y = v.y;
-    if errors::is_finite(x) {
-        return errors::is_finite(y);
+    if store::has_bad_circle(store, count) || bad {
+        Err(Refusal::BadNumber)
+    } else if store::is_bad_store_count(store, count) {
+        Err(Refusal::NoRoom)
+    } else if count < 2 {
+        Err(Refusal::TooFewCircles)
+    } else {
+        Ok(CirclesInUse { store, count })
     }
-    false
-}
-
-// The vector with its direction reversed.
-fn negated(v: Vector2) -> Vector2
-    ensures { result ≡ negated v }
-{
-    let x = v.x;
-    let y = v.y;
-    Vector2 { x: -x, y: -y }
-}
-
-// The entry tests, with what fails by 2 beside the store.
-fn entered(store: &[f64], count: usize, bad: bool) -> Entry
-    ensures { listed_entry result ≡ orient_entry store.now count bad }
-{
-    if inscribed::store::has_bad_circle(store, count) {
-        return Entry::Refused(Refusal::BadNumber);
-    }
-    if bad {
-        return Entry::Refused(Refusal::BadNumber);
-    }
-    if inscribed::store::is_bad_store_count(store, count) {
-        return Entry::Refused(Refusal::NoRoom);
-    }
-    if count < 2 {
-        return Entry::Refused(Refusal::TooFewCircles);
-    }
-    Entry::Passed
 }
 
 // What fails by 2 beside the circles' numbers: a vector, or by greatest radius a centre out of a camber curve's range.
@@ -81,33 +58,34 @@ fn is_bad_fwd(how: OrientFwdAft, store: &[f64], count: usize) -> bool
     ensures { result ≡ bad_fwd how store.now count }
 {
     match how {
-        OrientFwdAft::TmaxFwd => centers::has_bad_center(store, count),
-        OrientFwdAft::Airflow(v) => !is_finite_vector(v),
-        OrientFwdAft::Fwd(v) => !is_finite_vector(v),
+        OrientFwdAft::TmaxFwd => has_bad_center(store, count),
+        OrientFwdAft::Airflow(v) | OrientFwdAft::Fwd(v) => !v.all_finite(),
     }
 }
 
 // Whether the order of the circles has to be turned.
-fn turn_of(how: OrientFwdAft, store: &[f64], count: usize) -> BoolAnswer
-    requires { (count * width ≤ length store.now) × (1 ≤ count) × (count ≤ most_slots) }
-    ensures { listed_bool result ≡ turn_of how (circles_of store.now count) }
+#[tactic(auto, unfolding(crate::specs::Orientation::tmax_fwd, crate::specs::Orientation::tmax_on))]
+fn turn_of(how: OrientFwdAft, circles: &CirclesInUse<'_>) -> Result<bool, Refusal>
+    requires { (1 ≤ circles.now.count) × (circles.now.count ≤ most_slots) }
+    ensures { result ≡ turn_of how (circles_of circles.now.store.now circles.now.count) }
 {
     match how {
-        OrientFwdAft::TmaxFwd => camber::check_on_camber(CamberCheck::TmaxFwd, store, count),
-        OrientFwdAft::Airflow(v) => checks::check_dir_fwd(store, count, negated(v)),
-        OrientFwdAft::Fwd(v) => checks::check_dir_fwd(store, count, v),
+        OrientFwdAft::TmaxFwd => {
+            let mut numbers = [0.0; MOST_NUMBERS];
+            tmax::check_tmax(&camber_curve(circles, &mut numbers)?, circles)
+        }
+        OrientFwdAft::Airflow(v) => checks::check_dir_fwd(circles, -v),
+        OrientFwdAft::Fwd(v) => checks::check_dir_fwd(circles, v),
     }
 }
 
 // The same after the entry tests.
-fn check_fwd(how: OrientFwdAft, store: &[f64], count: usize) -> BoolAnswer
-    ensures { listed_bool result ≡ fwd_asked how store.now count }
+#[tactic(auto, using(crate::proofs::Laws::orient_passed), unfolding(crate::specs::Orientation::fwd_asked))]
+fn check_fwd(how: OrientFwdAft, store: &[f64], count: usize) -> Result<bool, Refusal>
+    ensures { result ≡ fwd_asked how store.now count }
 {
-    let bad = is_bad_fwd(how, store, count);
-    match entered(store, count, bad) {
-        Entry::Passed => turn_of(how, store, count),
-        Entry::Refused(r) => BoolAnswer::Refused(r),
-    }
+    let circles = entered(store, count, is_bad_fwd(how, store, count))?;
+    turn_of(how, &circles)
 }
 
 // What fails by 2 beside the circles' numbers: a vector, or by curvature a centre out of a camber curve's range.
@@ -115,69 +93,58 @@ fn is_bad_upper(how: OrientUpperLower, store: &[f64], count: usize) -> bool
     ensures { result ≡ bad_upper how store.now count }
 {
     match how {
-        OrientUpperLower::Curvature => centers::has_bad_center(store, count),
-        OrientUpperLower::Upper(v) => !is_finite_vector(v),
-        OrientUpperLower::Lower(v) => !is_finite_vector(v),
+        OrientUpperLower::Curvature => has_bad_center(store, count),
+        OrientUpperLower::Upper(v) | OrientUpperLower::Lower(v) => !v.all_finite(),
     }
 }
 
 // Whether the contacts of the circles have to be swapped.
-fn swap_of(how: OrientUpperLower, store: &[f64], count: usize) -> BoolAnswer
-    requires { (count * width ≤ length store.now) × (1 ≤ count) × (count ≤ most_slots) }
-    ensures { listed_bool result ≡ swap_of how (circles_of store.now count) }
+#[tactic(auto, unfolding(crate::specs::Orientation::curvature_upper))]
+fn swap_of(how: OrientUpperLower, circles: &CirclesInUse<'_>) -> Result<bool, Refusal>
+    requires { (1 ≤ circles.now.count) × (circles.now.count ≤ most_slots) }
+    ensures { result ≡ swap_of how (circles_of circles.now.store.now circles.now.count) }
 {
     match how {
         OrientUpperLower::Curvature => {
-            camber::check_on_camber(CamberCheck::Curvature, store, count)
+            let mut numbers = [0.0; MOST_NUMBERS];
+            curvature::check_curvature(&camber_curve(circles, &mut numbers)?, circles)
         }
-        OrientUpperLower::Upper(v) => checks::check_dir_upper(store, count, v),
-        OrientUpperLower::Lower(v) => checks::check_dir_upper(store, count, negated(v)),
+        OrientUpperLower::Upper(v) => checks::check_dir_upper(circles, v),
+        OrientUpperLower::Lower(v) => checks::check_dir_upper(circles, -v),
     }
 }
 
 // The same after the entry tests.
-fn check_upper(how: OrientUpperLower, store: &[f64], count: usize) -> BoolAnswer
-    ensures { listed_bool result ≡ upper_asked how store.now count }
+#[tactic(auto, using(crate::proofs::Laws::orient_passed), unfolding(crate::specs::Orientation::upper_asked))]
+fn check_upper(how: OrientUpperLower, store: &[f64], count: usize) -> Result<bool, Refusal>
+    ensures { result ≡ upper_asked how store.now count }
 {
-    let bad = is_bad_upper(how, store, count);
-    match entered(store, count, bad) {
-        Entry::Passed => swap_of(how, store, count),
-        Entry::Refused(r) => BoolAnswer::Refused(r),
-    }
+    let circles = entered(store, count, is_bad_upper(how, store, count))?;
+    swap_of(how, &circles)
 }
 
 impl OrientFwdAft {
     // Brings the circles in use into leading-to-trailing order; says whether the order was turned. Contacts stay.
-    pub fn apply(self, store: &mut [f64], count: usize) -> BoolAnswer
+    pub fn apply(self, store: &mut [f64], count: usize) -> Result<bool, Refusal>
         ensures { Oriented reverse (fwd_asked self store.old count) store.old count store.new result }
     {
-        match check_fwd(self, store, count) {
-            BoolAnswer::Value(turn) => {
-                if turn {
-                    inscribed::checked::reverse_order_only(store, count);
-                    return BoolAnswer::Value(true);
-                }
-                BoolAnswer::Value(false)
-            }
-            BoolAnswer::Refused(r) => BoolAnswer::Refused(r),
+        let turn = check_fwd(self, store, count)?;
+        if turn {
+            reverse_order_only(store, count);
         }
+        Ok(turn)
     }
 }
 
 impl OrientUpperLower {
     // Brings the first contact of each circle in use to the lower side; says whether the contacts were swapped. The order stays.
-    pub fn apply(self, store: &mut [f64], count: usize) -> BoolAnswer
+    pub fn apply(self, store: &mut [f64], count: usize) -> Result<bool, Refusal>
         ensures { Oriented (map reversed_points) (upper_asked self store.old count) store.old count store.new result }
     {
-        match check_upper(self, store, count) {
-            BoolAnswer::Value(swap) => {
-                if swap {
-                    inscribed::checked::reverse_points(store, count);
-                    return BoolAnswer::Value(true);
-                }
-                BoolAnswer::Value(false)
-            }
-            BoolAnswer::Refused(r) => BoolAnswer::Refused(r),
+        let swap = check_upper(self, store, count)?;
+        if swap {
+            reverse_points(store, count);
         }
+        Ok(swap)
     }
 }

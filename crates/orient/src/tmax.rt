@@ -1,60 +1,45 @@
-// The check by the greatest radius, on the camber curve of the circles of a store whose count has been tested: whether they have to be turned.
-ghost use Rattle.std.specs.Prelude.{◌≡◌, ◌*◌, ◌≤◌, length};
-ghost use Rattle.curve2.specs.Entry.{HasPoints};
-ghost use Rattle.inscribed.specs.Store.{width, circles_of};
-ghost use Rattle.sections.specs.Asked.{listed_bool};
+// The check by the greatest radius, on a camber curve: whether the circles have to be turned.
+ghost use Rattle.std.specs.Prelude.{◌≡◌, ◌≤◌};
+ghost use Rattle.inscribed.specs.Store.{circles_of};
 ghost use Rattle.orient.specs.Orientation.{thickest, behind_half, in_back_half};
 
-use curve2::StationAnswer;
-use errors::ScalarAnswer;
+use curve2::checked::Curve2;
+use errors::Refusal;
 use inscribed::Inscribed;
-use sections::BoolAnswer;
+use inscribed::checked::CirclesInUse;
 
 // Whether a length along isn't in the first half of a curve.
-fn is_behind_half(curve: &[f64], along: f64) -> BoolAnswer
-    requires { HasPoints curve.now }
-    ensures { listed_bool result ≡ behind_half curve.now along }
+#[tactic(auto, unfolding(crate::specs::Orientation::behind_half))]
+fn is_behind_half(curve: &Curve2<'_>, along: f64) -> Result<bool, Refusal>
+    ensures { result ≡ behind_half curve.now.points.now along }
 {
-    match errors::watch(curve2::checked::whole_length(curve)) {
-        ScalarAnswer::Value(whole) => BoolAnswer::Value(!(along < whole * 0.5)),
-        ScalarAnswer::Refused(r) => BoolAnswer::Refused(r),
-    }
+    let whole = errors::watch(curve.whole_length())?;
+    Ok(!(along < whole * 0.5))
 }
 
 // Whether a circle's place on a curve isn't in its first half.
-fn is_in_back_half(curve: &[f64], c: Inscribed) -> BoolAnswer
-    requires { HasPoints curve.now }
-    ensures { listed_bool result ≡ in_back_half curve.now c }
+#[tactic(auto, using(crate::proofs::tmax::Laws::station_below), unfolding(crate::specs::Orientation::in_back_half))]
+fn is_in_back_half(curve: &Curve2<'_>, c: Inscribed) -> Result<bool, Refusal>
+    ensures { result ≡ in_back_half curve.now.points.now c }
 {
-    let p = c.center();
-    match sections::checked::at_closest_to_point(curve, p) {
-        StationAnswer::Value(s) => {
-            let index = s.index;
-            let fraction = s.fraction;
-            match sections::checked::length_along(curve, index, fraction) {
-                ScalarAnswer::Value(along) => is_behind_half(curve, along),
-                ScalarAnswer::Refused(r) => BoolAnswer::Refused(r),
-            }
-        }
-        StationAnswer::Refused(r) => BoolAnswer::Refused(r),
-    }
+    let s = sections::checked::at_closest_to_point(curve, c.center())?;
+    let along = sections::checked::length_along(curve, s.index, s.fraction)?;
+    is_behind_half(curve, along)
 }
 
 // The thickest circle.
-fn thickest(store: &[f64], count: usize) -> Inscribed
-    requires { (count * width ≤ length store.now) × (1 ≤ count) }
-    ensures { result ≡ thickest (circles_of store.now count) }
+#[tactic(auto, using(crate::proofs::tmax::Laws::thickest_below, crate::proofs::tmax::Laws::thickest_at))]
+fn thickest(circles: &CirclesInUse<'_>) -> Inscribed
+    requires { 1 ≤ circles.now.count }
+    ensures { result ≡ thickest (circles_of circles.now.store.now circles.now.count) }
 {
-    let k = inscribed::checked::index_of_tmax(store, count);
-    inscribed::checked::circle_at(store, k)
+    circles.at(circles.index_of_tmax())
 }
 
-// By greatest radius, on a camber curve that was made.
-pub(crate) fn check_tmax(curve: &[f64], store: &[f64], count: usize) -> BoolAnswer
-    requires has_points { HasPoints curve.now }
-    requires width_in_bounds { (count * width ≤ length store.now) × (1 ≤ count) }
-    ensures { listed_bool result ≡ in_back_half curve.now (thickest (circles_of store.now count)) }
+// By greatest radius, on the camber curve of the circles.
+pub(crate) fn check_tmax(curve: &Curve2<'_>, circles: &CirclesInUse<'_>) -> Result<bool, Refusal>
+    requires { 1 ≤ circles.now.count }
+    ensures { result ≡ in_back_half curve.now.points.now (thickest (circles_of circles.now.store.now circles.now.count)) }
 {
-    let c = thickest(store, count);
-    is_in_back_half(curve, c)
+    is_in_back_half(curve, thickest(circles))
 }

@@ -9,7 +9,8 @@ use borrow.Author.Tests.{ltb-true, ltb-false}
 use lib.Dec.{T, ltb}
 use lib.Ieee.{Float, binary64, low, fits, lt, le, eq}
 use lib.Ieee.Scale.{finite}
-use Rattle.errors.specs.Answer.{Answer, result, refusal, watched, ◌>>=◌}
+use Rattle.std.specs.Prelude.{Ok, Err}
+use Rattle.errors.specs.Answer.{Answer, watched, ◌>>=◌}
 use Rattle.points.specs.Numbers.{◌+f◌, ◌-f◌, ◌*f◌, ◌/f◌, f0, f1, is_within}
 use Rattle.curve2.specs.Section.{is_closed}
 use Rattle.curve2.specs.Entry.{IsSection}
@@ -29,35 +30,35 @@ use Rattle.partitioning.proofs.SpotLaws.{Spot, on_vertex, on_last, inside, spot,
 -- ---- the four steps to the ends
 
 pub record EndsAre (ns : List Float) (tol l0 l1 : Float) (e : Ends) : Type 0 where
-  pub start : at_length ns tol l0 ≡ result e.start
-  pub end : at_length ns tol l1 ≡ result e.end
-  pub to : along ns e.end ≡ result e.to
-  pub from : along ns e.start ≡ result e.from
+  pub start : at_length ns tol l0 ≡ Ok e.start
+  pub end : at_length ns tol l1 ≡ Ok e.end
+  pub to : along ns e.end ≡ Ok e.to
+  pub from : along ns e.start ≡ Ok e.from
 
-pub ends_are : (ns : List Float) (tol l0 l1 : Float) (e : Ends) → ends_of ns tol l0 l1 ≡ result e → EndsAre ns tol l0 l1 e
+pub ends_are : (ns : List Float) (tol l0 l1 : Float) (e : Ends) → ends_of ns tol l0 l1 ≡ Ok e → EndsAre ns tol l0 l1 e
 unfolding ends_of
 ends_are ns tol l0 l1 e h = go (at_length ns tol l0) (at_length ns tol l1) refl refl h
   where
-    last : (s t : CurveStation2) (a b : Answer Float) → at_length ns tol l0 ≡ result s → at_length ns tol l1 ≡ result t → along ns t ≡ a → along ns s ≡ b
-        → (a >>= λ to. b >>= λ from. result (record { start = s; end = t; from = from; to = to })) ≡ result e → EndsAre ns tol l0 l1 e
-    last s t (refusal r) b p q u v h = let z : ◌≡◌ {A = ℕ} 0 1 = cc in absurd (omega arith)
-    last s t (result x) (refusal r) p q u v h = let z : ◌≡◌ {A = ℕ} 0 1 = cc in absurd (omega arith)
-    last s t (result x) (result y) p q u v h =
+    last : (s t : CurveStation2) (a b : Answer Float) → at_length ns tol l0 ≡ Ok s → at_length ns tol l1 ≡ Ok t → along ns t ≡ a → along ns s ≡ b
+        → (a >>= λ to. b >>= λ from. Ok (record { start = s; end = t; from = from; to = to })) ≡ Ok e → EndsAre ns tol l0 l1 e
+    last s t (Err r) b p q u v h = let z : ◌≡◌ {A = ℕ} 0 1 = cc in absurd (omega arith)
+    last s t (Ok x) (Err r) p q u v h = let z : ◌≡◌ {A = ℕ} 0 1 = cc in absurd (omega arith)
+    last s t (Ok x) (Ok y) p q u v h =
         let is : record { start = s; end = t; from = y; to = x } ≡ e = cc in
         rw (← is) (record { start = p; end = q; to = u; from = v })
 
     go : (a b : Answer CurveStation2) → at_length ns tol l0 ≡ a → at_length ns tol l1 ≡ b
-        → (a >>= λ start. b >>= λ end. along ns end >>= λ to. along ns start >>= λ from. result (record { start = start; end = end; from = from; to = to })) ≡ result e → EndsAre ns tol l0 l1 e
-    go (refusal r) b p q h = let z : ◌≡◌ {A = ℕ} 0 1 = cc in absurd (omega arith)
-    go (result s) (refusal r) p q h = let z : ◌≡◌ {A = ℕ} 0 1 = cc in absurd (omega arith)
-    go (result s) (result t) p q h = last s t (along ns t) (along ns s) p q refl refl h
+        → (a >>= λ start. b >>= λ end. along ns end >>= λ to. along ns start >>= λ from. Ok (record { start = start; end = end; from = from; to = to })) ≡ Ok e → EndsAre ns tol l0 l1 e
+    go (Err r) b p q h = let z : ◌≡◌ {A = ℕ} 0 1 = cc in absurd (omega arith)
+    go (Ok s) (Err r) p q h = let z : ◌≡◌ {A = ℕ} 0 1 = cc in absurd (omega arith)
+    go (Ok s) (Ok t) p q h = last s t (along ns t) (along ns s) p q refl refl h
 
 -- ---- a length along
 
-watched_is : (x y : Float) → watched x ≡ result y → (y ≡ x) × T (finite x)
+watched_is : (x y : Float) → watched x ≡ Ok y → (y ≡ x) × T (finite x)
 watched_is x y e = go (finite x) refl e
   where
-    go : (b : Bool) → finite x ≡ b → cond b (result x) (refusal NotFinite) ≡ result y → (y ≡ x) × T (finite x)
+    go : (b : Bool) → finite x ≡ b → cond b (Ok x) (Err NotFinite) ≡ Ok y → (y ≡ x) × T (finite x)
     go true p h = (cc, rw p tt)
     go false p h = let z : ◌≡◌ {A = ℕ} 0 1 = cc in absurd (omega arith)
 
@@ -68,7 +69,7 @@ module _ (ns : List Float) (tol : Float) (sec : IsSection ns tol) (i : ℕ) (on 
   abbrev n : Float
   n = length_at ns (i + 1)
 
-  pub along_is : (f x : Float) → length_along ns i f ≡ result x → (x ≡ length_at ns i +f (length_at ns (i + 1) -f length_at ns i) *f f) × T (finite (length_at ns i +f (length_at ns (i + 1) -f length_at ns i) *f f))
+  pub along_is : (f x : Float) → length_along ns i f ≡ Ok x → (x ≡ length_at ns i +f (length_at ns (i + 1) -f length_at ns i) *f f) × T (finite (length_at ns i +f (length_at ns (i + 1) -f length_at ns i) *f f))
   unfolding length_along
   along_is f x e = watched_is (length_at ns i +f (length_at ns (i + 1) -f length_at ns i) *f f) x e
 
@@ -127,7 +128,7 @@ module _ (ns : List Float) (tol : Float) (sec : IsSection ns tol) (i : ℕ) (on 
 
 -- ---- a station, by where it is
 
-module _ (ns : List Float) (tol : Float) (sec : IsSection ns tol) (l : Float) (fit : T (fits binary64 l)) (s : CurveStation2) (x : Float) (is : along ns s ≡ result x) where
+module _ (ns : List Float) (tol : Float) (sec : IsSection ns tol) (l : Float) (fit : T (fits binary64 l)) (s : CurveStation2) (x : Float) (is : along ns s ≡ Ok x) where
   -- no earlier than the start of its edge
   pub station_above : Spot ns l s → (sm : Size (length_at ns s.index)) → Above x (sm.digits * 2 ^ sm.exponent)
   station_above (on_vertex on f) sm =

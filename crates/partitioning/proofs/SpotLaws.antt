@@ -11,7 +11,8 @@ use lib.ListN.{drop}
 use lib.Ieee.{Float, binary64, fits, lt, eq}
 use lib.Ieee.Fits.{add-fits}
 use lib.Ieee.Scale.{finite}
-use Rattle.errors.specs.Answer.{Answer, result, refusal, watched, ◌>>=◌}
+use Rattle.std.specs.Prelude.{Ok, Err}
+use Rattle.errors.specs.Answer.{Answer, watched, ◌>>=◌}
 use Rattle.errors.specs.declared.Refusal.TheVariants.{NotFinite, OffCurve}
 use Rattle.points.specs.Numbers.{◌+f◌, ◌-f◌, ◌/f◌, f0, f1}
 use Rattle.points.specs.Points.{minus, moved, normalized, watched_point}
@@ -58,32 +59,32 @@ pub data Spot (ns : List Float) (l : Float) (s : CurveStation2) : Type 0 where
   inside : s.index < last_vertex ns → s.fraction ≡ (l -f length_at ns s.index) /f (length_at ns (s.index + 1) -f length_at ns s.index) → lt l (length_at ns s.index) ≡ false
       → eq (length_at ns s.index) l ≡ false → lt l (length_at ns (s.index + 1)) ≡ true → Spot ns l s
 
-spot_inner : (ns : List Float) (tol l : Float) (i : ℕ) (s : CurveStation2) → i < last_vertex ns → at_vertex ns tol i ≡ result s → Spot ns l s
+spot_inner : (ns : List Float) (tol l : Float) (i : ℕ) (s : CurveStation2) → i < last_vertex ns → at_vertex ns tol i ≡ Ok s → Spot ns l s
 spot_inner ns tol l i s h e = let a = at_inner ns tol i s (λ z. omega (arith, z, h)) e in on_vertex (omega (arith, a.index, h)) a.fraction
 
-spot_last : (ns : List Float) (tol l : Float) (i : ℕ) (s : CurveStation2) → 1 ≤ last_vertex ns → i ≡ last_vertex ns → at_vertex ns tol i ≡ result s → Spot ns l s
+spot_last : (ns : List Float) (tol l : Float) (i : ℕ) (s : CurveStation2) → 1 ≤ last_vertex ns → i ≡ last_vertex ns → at_vertex ns tol i ≡ Ok s → Spot ns l s
 spot_last ns tol l i s k h e = let a = at-end ns tol i s h e in on_last (omega (arith, a.index, h, k)) a.fraction
 
 -- what an edge's inside gives
-inside_is : (i : ℕ) (p q : Point2) (m n l : Float) (s : CurveStation2) → inside_edge i p q m n l ≡ result s → (s.index ≡ i) × (s.fraction ≡ (l -f m) /f (n -f m))
+inside_is : (i : ℕ) (p q : Point2) (m n l : Float) (s : CurveStation2) → inside_edge i p q m n l ≡ Ok s → (s.index ≡ i) × (s.fraction ≡ (l -f m) /f (n -f m))
 unfolding inside_edge
 inside_is i p q m n l s e = go (normalized (minus q p)) e
   where
-    at : (d : Vector2) (b : Bool) (a : Answer Point2) → (cond b (result ((l -f m) /f (n -f m))) (refusal NotFinite) >>= λ f. a >>= λ at. result (station at d i f)) ≡ result s
+    at : (d : Vector2) (b : Bool) (a : Answer Point2) → (cond b (Ok ((l -f m) /f (n -f m))) (Err NotFinite) >>= λ f. a >>= λ at. Ok (station at d i f)) ≡ Ok s
         → (s.index ≡ i) × (s.fraction ≡ (l -f m) /f (n -f m))
     at d false a e = let z : ◌≡◌ {A = ℕ} 0 1 = cc in absurd (omega arith)
-    at d true (refusal r) e = let z : ◌≡◌ {A = ℕ} 0 1 = cc in absurd (omega arith)
-    at d true (result x) e = (cc, cc)
+    at d true (Err r) e = let z : ◌≡◌ {A = ℕ} 0 1 = cc in absurd (omega arith)
+    at d true (Ok x) e = (cc, cc)
 
-    go : (a : Answer Vector2) → (a >>= λ d. watched ((l -f m) /f (n -f m)) >>= λ f. watched_point (moved p d (l -f m)) >>= λ at. result (station at d i f)) ≡ result s
+    go : (a : Answer Vector2) → (a >>= λ d. watched ((l -f m) /f (n -f m)) >>= λ f. watched_point (moved p d (l -f m)) >>= λ at. Ok (station at d i f)) ≡ Ok s
         → (s.index ≡ i) × (s.fraction ≡ (l -f m) /f (n -f m))
-    go (refusal r) e = let z : ◌≡◌ {A = ℕ} 0 1 = cc in absurd (omega arith)
-    go (result d) e = at d (finite ((l -f m) /f (n -f m))) (watched_point (moved p d (l -f m))) e
+    go (Err r) e = let z : ◌≡◌ {A = ℕ} 0 1 = cc in absurd (omega arith)
+    go (Ok d) e = at d (finite ((l -f m) /f (n -f m))) (watched_point (moved p d (l -f m))) e
 
 module _ (ns : List Float) (tol l : Float) (s : CurveStation2) (pts : HasPoints ns) where
   -- the search, from vertex i on, with k edges left
-  spot_from : (k i : ℕ) → i + k ≡ last_vertex ns → lt l (length_at ns i) ≡ false → at_length_from ns tol l i (length_at ns i) (points_of (drop (2 * i) ns)) ≡ result s → Spot ns l s
-  spot_from zero i h b e = spot_last ns tol l i s (omega (arith, pts.least)) (omega (arith, h)) (at_last ns tol l i (length_at ns i) (result s) e pts (omega (arith, h)))
+  spot_from : (k i : ℕ) → i + k ≡ last_vertex ns → lt l (length_at ns i) ≡ false → at_length_from ns tol l i (length_at ns i) (points_of (drop (2 * i) ns)) ≡ Ok s → Spot ns l s
+  spot_from zero i h b e = spot_last ns tol l i s (omega (arith, pts.least)) (omega (arith, h)) (at_last ns tol l i (length_at ns i) (Ok s) e pts (omega (arith, h)))
   spot_from (suc k) i h b e = go (eq (length_at ns i) l) (lt l (length_at ns (i + 1))) refl refl (λ b₂ e₂. spot_from k (i + 1) (omega (arith, h)) b₂ e₂)
     where
       fits_here : i < last_vertex ns
@@ -93,19 +94,19 @@ module _ (ns : List Float) (tol l : Float) (s : CurveStation2) (pts : HasPoints 
       after = length_after ns i fits_here
 
       go : (x y : Bool) → eq (length_at ns i) l ≡ x → lt l (length_at ns (i + 1)) ≡ y
-          → (lt l (length_at ns (i + 1)) ≡ false → at_length_from ns tol l (i + 1) (length_at ns (i + 1)) (points_of (drop (2 * (i + 1)) ns)) ≡ result s → Spot ns l s) → Spot ns l s
-      go true y p q ih = spot_inner ns tol l i s fits_here (at_exact ns tol l i (length_at ns i) (result s) e fits_here p)
+          → (lt l (length_at ns (i + 1)) ≡ false → at_length_from ns tol l (i + 1) (length_at ns (i + 1)) (points_of (drop (2 * (i + 1)) ns)) ≡ Ok s → Spot ns l s) → Spot ns l s
+      go true y p q ih = spot_inner ns tol l i s fits_here (at_exact ns tol l i (length_at ns i) (Ok s) e fits_here p)
       go false true p q ih =
-          let is = at_inside ns tol l i (length_at ns i) (result s) e fits_here p _ refl (rw after at q) in
+          let is = at_inside ns tol l i (length_at ns i) (Ok s) e fits_here p _ refl (rw after at q) in
           let at = inside_is i (vertex ns i) (vertex ns (i + 1)) (length_at ns i) (length_at ns (i + 1)) l s (rw after is) in
           inside (omega (arith, at.0, fits_here)) (rw at.0 at.1) (rw at.0 b) (rw at.0 p) (rw at.0 q)
-      go false false p q ih = ih q (rw after (at_later ns tol l i (length_at ns i) (result s) e fits_here p _ refl (rw after at q)))
+      go false false p q ih = ih q (rw after (at_later ns tol l i (length_at ns i) (Ok s) e fits_here p _ refl (rw after at q)))
 
-pub spot : (ns : List Float) (tol l : Float) (s : CurveStation2) → IsSection ns tol → at_length ns tol l ≡ result s → Spot ns l s
+pub spot : (ns : List Float) (tol l : Float) (s : CurveStation2) → IsSection ns tol → at_length ns tol l ≡ Ok s → Spot ns l s
 unfolding at_length
 spot ns tol l s sec e = go (lt l f0) (lt (whole_length ns) l) refl e
   where
-    go : (x y : Bool) → lt l f0 ≡ x → cond (x || y) (refusal OffCurve) (at_length_from ns tol l 0 f0 (points_of ns)) ≡ result s → Spot ns l s
+    go : (x y : Bool) → lt l f0 ≡ x → cond (x || y) (Err OffCurve) (at_length_from ns tol l 0 f0 (points_of ns)) ≡ Ok s → Spot ns l s
     go true y p e = let z : ◌≡◌ {A = ℕ} 0 1 = cc in absurd (omega arith)
     go false true p e = let z : ◌≡◌ {A = ℕ} 0 1 = cc in absurd (omega arith)
     go false false p e =

@@ -3,16 +3,15 @@ use mathlib.Core.Path.{◌≡◌, refl, sym, ap, ◌∙◌}
 use mathlib.Core.Logic.{inl, inr}
 use mathlib.Core.Bool.{Bool, true, false, ◌&&◌, cond}
 use mathlib.Core.List.{List, [], ◌∷◌, ◌++◌, append_assoc, append-nil}
-use mathlib.Core.Option.{Option, some, none}
+use Rattle.std.specs.Prelude.{Option, Some, None, Ok, Err}
 use Prim.Native.Nat.{ℕ, zero, suc, ◌+◌, ◌-◌, ◌*◌, ◌≤◌, ◌<◌}
 use native.Mathlib.Omega.{arith}
 use lib.ListN.{length, length-append}
 use lib.Ieee.{Float}
-use Rattle.errors.specs.Answer.{Answer, result, refusal, ◌>>=◌}
+use Rattle.errors.specs.Answer.{Answer, ◌>>=◌}
 use Rattle.errors.specs.declared.Refusal.{Refusal}
 use Rattle.points.specs.declared.Point2.{Point2}
 use Rattle.curve2.specs.Section.{is_closed}
-use Rattle.curve2.specs.Entry.{HasPoints}
 use Rattle.curve2.specs.Stations.{last_vertex, at_vertex}
 use Rattle.curve2.specs.declared.CurveStation2.{CurveStation2}
 use Rattle.cleaning.specs.Cleaning.{point_numbers}
@@ -32,37 +31,37 @@ pub record Few (left : ℕ) (leg : Leg) : Type 0 where
   pub most : length leg.points ≤ left
   pub all : leg.over ≡ true → length leg.points ≡ left
 
-few_behind : (left : ℕ) (v : CurveStation2) (a : Answer Leg) (leg : Leg) → ((l : Leg) → a ≡ result l → Few left l) → (a >>= λ l. result (behind v l)) ≡ result leg → Few (suc left) leg
-few_behind left v (refusal r) leg ih h = let z : ◌≡◌ {A = ℕ} 0 1 = cc in absurd (omega arith)
-few_behind left v (result l) leg ih h =
+few_behind : (left : ℕ) (v : CurveStation2) (a : Answer Leg) (leg : Leg) → ((l : Leg) → a ≡ Ok l → Few left l) → (a >>= λ l. Ok (behind v l)) ≡ Ok leg → Few (suc left) leg
+few_behind left v (Err r) leg ih h = let z : ◌≡◌ {A = ℕ} 0 1 = cc in absurd (omega arith)
+few_behind left v (Ok l) leg ih h =
     let f = ih l refl in
     let is : leg ≡ behind v l = cc in
     rw is (record { most = omega (arith, f.most); all = λ o. omega (arith, f.all o) })
 
-pub leg_few : (ns : List Float) (tol : Float) (e : Ends) (left : ℕ) (s : CurveStation2) (leg : Leg) → leg_from ns tol e left s ≡ result leg → Few left leg
+pub leg_few : (ns : List Float) (tol : Float) (e : Ends) (left : ℕ) (s : CurveStation2) (leg : Leg) → leg_from ns tol e left s ≡ Ok leg → Few left leg
 unfolding leg_from
 leg_few ns tol e zero s leg h = let is : leg ≡ record { points = []; over = true } = cc in rw is (record { most = omega arith; all = λ o. refl })
 leg_few ns tol e (suc left) s leg h = go (turn_of ns tol e s) (λ v. leg_few ns tol e left v) (sym (leg_by_turn ns tol e left s) ∙ h)
   where
-    go : (t : Answer (Option Working)) → ((v : CurveStation2) (l : Leg) → leg_from ns tol e left v ≡ result l → Few left l) → (t >>= onward ns tol e left) ≡ result leg → Few (suc left) leg
-    go (refusal r) ih h = let z : ◌≡◌ {A = ℕ} 0 1 = cc in absurd (omega arith)
-    go (result none) ih h = let is : leg ≡ record { points = []; over = false } = cc in rw is (record { most = omega arith; all = λ o. (let z : ◌≡◌ {A = ℕ} 0 1 = cc in absurd (omega arith)) })
-    go (result (some v)) ih h = few_behind left v.station (leg_from ns tol e left v.station) leg (ih v.station) h
+    go : (t : Answer (Option Working)) → ((v : CurveStation2) (l : Leg) → leg_from ns tol e left v ≡ Ok l → Few left l) → (t >>= onward ns tol e left) ≡ Ok leg → Few (suc left) leg
+    go (Err r) ih h = let z : ◌≡◌ {A = ℕ} 0 1 = cc in absurd (omega arith)
+    go (Ok None) ih h = let is : leg ≡ record { points = []; over = false } = cc in rw is (record { most = omega arith; all = λ o. (let z : ◌≡◌ {A = ℕ} 0 1 = cc in absurd (omega arith)) })
+    go (Ok (Some v)) ih h = few_behind left v.station (leg_from ns tol e left v.station) leg (ih v.station) h
 
 -- where the end lies ahead: one for every vertex up to its edge
-ahead_behind : (most : ℕ) (v : CurveStation2) (a : Answer Leg) (leg : Leg) → ((l : Leg) → a ≡ result l → length l.points ≤ most) → (a >>= λ l. result (behind v l)) ≡ result leg → length leg.points ≤ suc most
-ahead_behind most v (refusal r) leg ih h = let z : ◌≡◌ {A = ℕ} 0 1 = cc in absurd (omega arith)
-ahead_behind most v (result l) leg ih h = let is : leg ≡ behind v l = cc in rw is (omega (arith, ih l refl))
+ahead_behind : (most : ℕ) (v : CurveStation2) (a : Answer Leg) (leg : Leg) → ((l : Leg) → a ≡ Ok l → length l.points ≤ most) → (a >>= λ l. Ok (behind v l)) ≡ Ok leg → length leg.points ≤ suc most
+ahead_behind most v (Err r) leg ih h = let z : ◌≡◌ {A = ℕ} 0 1 = cc in absurd (omega arith)
+ahead_behind most v (Ok l) leg ih h = let is : leg ≡ behind v l = cc in rw is (omega (arith, ih l refl))
 
-pub leg_ahead : (ns : List Float) (tol : Float) (e : Ends) (left : ℕ) (s : CurveStation2) (leg : Leg) → EndAhead ns e s → leg_from ns tol e left s ≡ result leg → length leg.points ≤ e.end.index - s.index
+pub leg_ahead : (ns : List Float) (tol : Float) (e : Ends) (left : ℕ) (s : CurveStation2) (leg : Leg) → EndAhead ns e s → leg_from ns tol e left s ≡ Ok leg → length leg.points ≤ e.end.index - s.index
 unfolding leg_from
 leg_ahead ns tol e zero s leg a h = let is : leg ≡ record { points = []; over = true } = cc in rw is (omega arith)
 leg_ahead ns tol e (suc left) s leg a h = go (turn_of ns tol e s) (λ v. leg_ahead ns tol e left v) refl (sym (leg_by_turn ns tol e left s) ∙ h)
   where
-    go : (t : Answer (Option Working)) → ((v : CurveStation2) (l : Leg) → EndAhead ns e v → leg_from ns tol e left v ≡ result l → length l.points ≤ e.end.index - v.index) → turn_of ns tol e s ≡ t → (t >>= onward ns tol e left) ≡ result leg → length leg.points ≤ e.end.index - s.index
-    go (refusal r) ih p h = let z : ◌≡◌ {A = ℕ} 0 1 = cc in absurd (omega arith)
-    go (result none) ih p h = let is : leg ≡ record { points = []; over = false } = cc in rw is (omega arith)
-    go (result (some v)) ih p h =
+    go : (t : Answer (Option Working)) → ((v : CurveStation2) (l : Leg) → EndAhead ns e v → leg_from ns tol e left v ≡ Ok l → length l.points ≤ e.end.index - v.index) → turn_of ns tol e s ≡ t → (t >>= onward ns tol e left) ≡ Ok leg → length leg.points ≤ e.end.index - s.index
+    go (Err r) ih p h = let z : ◌≡◌ {A = ℕ} 0 1 = cc in absurd (omega arith)
+    go (Ok None) ih p h = let is : leg ≡ record { points = []; over = false } = cc in rw is (omega arith)
+    go (Ok (Some v)) ih p h =
         let on = went_on ns tol e s v p in
         omega (
           arith,
@@ -74,24 +73,24 @@ leg_ahead ns tol e (suc left) s leg a h = go (turn_of ns tol e s) (λ v. leg_ahe
 -- ---- how many points the walk has
 
 -- the front is a vertex, and the end lies ahead of it
-pub front_ahead : (ns : List Float) (tol : Float) (e : Ends) (front : CurveStation2) → Walkable ns tol e → at_vertex ns tol 0 ≡ result front → EndAhead ns e front × (front.index ≡ 0)
+pub front_ahead : (ns : List Float) (tol : Float) (e : Ends) (front : CurveStation2) → Walkable ns tol e → at_vertex ns tol 0 ≡ Ok front → EndAhead ns e front × (front.index ≡ 0)
 front_ahead ns tol e front w h =
     let i = at_inner ns tol 0 front (λ z. omega (arith, z, w.end)) h in
     (record { vertex = i.fraction; before = omega (arith, i.index); end = w.end; stops = w.stops }, i.index)
 
-front-most : (ns : List Float) (tol : Float) (e : Ends) (ps : List Point2) → Walkable ns tol e → from_front ns tol e ≡ result ps → length ps ≤ e.end.index + 1
+front-most : (ns : List Float) (tol : Float) (e : Ends) (ps : List Point2) → Walkable ns tol e → from_front ns tol e ≡ Ok ps → length ps ≤ e.end.index + 1
 unfolding from_front
 front-most ns tol e ps w h = go (at_vertex ns tol 0) refl h
   where
-    then : (front : CurveStation2) (a : Answer Leg) → (EndAhead ns e front × (front.index ≡ 0)) → ((l : Leg) → a ≡ result l → length l.points ≤ e.end.index - front.index)
-        → (a >>= λ leg. result (front.point ∷ leg.points)) ≡ result ps → length ps ≤ e.end.index + 1
-    then front (refusal r) a ih h = let z : ◌≡◌ {A = ℕ} 0 1 = cc in absurd (omega arith)
-    then front (result l) a ih h = let is : ps ≡ front.point ∷ l.points = cc in rw is (omega (arith, ih l refl, a.1))
+    then : (front : CurveStation2) (a : Answer Leg) → (EndAhead ns e front × (front.index ≡ 0)) → ((l : Leg) → a ≡ Ok l → length l.points ≤ e.end.index - front.index)
+        → (a >>= λ leg. Ok (front.point ∷ leg.points)) ≡ Ok ps → length ps ≤ e.end.index + 1
+    then front (Err r) a ih h = let z : ◌≡◌ {A = ℕ} 0 1 = cc in absurd (omega arith)
+    then front (Ok l) a ih h = let is : ps ≡ front.point ∷ l.points = cc in rw is (omega (arith, ih l refl, a.1))
 
-    go : (f : Answer CurveStation2) → at_vertex ns tol 0 ≡ f → (f >>= λ front. leg_from ns tol e (last_index ns tol) front >>= λ leg. result (front.point ∷ leg.points)) ≡ result ps
+    go : (f : Answer CurveStation2) → at_vertex ns tol 0 ≡ f → (f >>= λ front. leg_from ns tol e (last_index ns tol) front >>= λ leg. Ok (front.point ∷ leg.points)) ≡ Ok ps
         → length ps ≤ e.end.index + 1
-    go (refusal r) p h = let z : ◌≡◌ {A = ℕ} 0 1 = cc in absurd (omega arith)
-    go (result front) p h =
+    go (Err r) p h = let z : ◌≡◌ {A = ℕ} 0 1 = cc in absurd (omega arith)
+    go (Ok front) p h =
         let a = front_ahead ns tol e front w p in
         then front (leg_from ns tol e (last_index ns tol) front) a (λ l q. leg_ahead ns tol e (last_index ns tol) front l a.0 q) h
 
@@ -106,31 +105,24 @@ last_most ns tol = go (is_closed ns tol)
     go true = omega arith
     go false = omega arith
 
-pub last_least : (ns : List Float) (tol : Float) → last_vertex ns ≤ last_index ns tol + 1
-last_least ns tol = go (is_closed ns tol)
-  where
-    go : (b : Bool) → last_vertex ns ≤ cond b (last_vertex ns - 1) (last_vertex ns) + 1
-    go true = omega arith
-    go false = omega arith
-
 -- As many points as the section has, with the start's: over the seam the first leg has the vertices behind the start's edge, the second those up to the end's, which is no later edge.
-pub walked-most : (ns : List Float) (tol : Float) (e : Ends) (ps : List Point2) → Walkable ns tol e → walked ns tol e ≡ result ps → 2 * (length ps + 1) ≤ length ns
+pub walked-most : (ns : List Float) (tol : Float) (e : Ends) (ps : List Point2) → Walkable ns tol e → walked ns tol e ≡ Ok ps → 2 * (length ps + 1) ≤ length ns
 unfolding walked
 walked-most ns tol e ps w h = go (leg_from ns tol e (last_index ns tol - e.start.index) e.start) refl h
   where
     over : (first : Leg) (b c : Bool) (f : Answer (List Point2)) → Few (last_index ns tol - e.start.index) first → first.over ≡ b → wrap e ≡ c → from_front ns tol e ≡ f
-        → cond (b && c) (f >>= λ qs. result (first.points ++ qs)) (result first.points) ≡ result ps → 2 * (length ps + 1) ≤ length ns
+        → cond (b && c) (f >>= λ qs. Ok (first.points ++ qs)) (Ok first.points) ≡ Ok ps → 2 * (length ps + 1) ≤ length ns
     over first false c f few o p q h = let is : ps ≡ first.points = cc in rw is (omega (arith, few.most, last_most ns tol, w.points.least))
     over first true false f few o p q h = let is : ps ≡ first.points = cc in rw is (omega (arith, few.most, last_most ns tol, w.points.least))
-    over first true true (refusal r) few o p q h = let z : ◌≡◌ {A = ℕ} 0 1 = cc in absurd (omega arith)
-    over first true true (result qs) few o p q h =
+    over first true true (Err r) few o p q h = let z : ◌≡◌ {A = ℕ} 0 1 = cc in absurd (omega arith)
+    over first true true (Ok qs) few o p q h =
         let is : ps ≡ first.points ++ qs = cc in
         rw is (omega (arith, few.all o, front-most ns tol e qs w q, length-append first.points qs, w.order p, last_closed ns tol e w p, w.start))
 
     go : (a : Answer Leg) → leg_from ns tol e (last_index ns tol - e.start.index) e.start ≡ a
-        → (a >>= λ first. cond (first.over && wrap e) (from_front ns tol e >>= λ ps. result (first.points ++ ps)) (result first.points)) ≡ result ps → 2 * (length ps + 1) ≤ length ns
-    go (refusal r) p h = let z : ◌≡◌ {A = ℕ} 0 1 = cc in absurd (omega arith)
-    go (result first) p h = over first first.over (wrap e) (from_front ns tol e) (leg_few ns tol e (last_index ns tol - e.start.index) e.start first p) refl refl refl h
+        → (a >>= λ first. cond (first.over && wrap e) (from_front ns tol e >>= λ ps. Ok (first.points ++ ps)) (Ok first.points)) ≡ Ok ps → 2 * (length ps + 1) ≤ length ns
+    go (Err r) p h = let z : ◌≡◌ {A = ℕ} 0 1 = cc in absurd (omega arith)
+    go (Ok first) p h = over first first.over (wrap e) (from_front ns tol e) (leg_few ns tol e (last_index ns tol - e.start.index) e.start first p) refl refl refl h
 
 -- ---- what is put
 
@@ -159,53 +151,53 @@ put_first old p ps h = rw (put-holding old [] p (omega arith)) (put_all_lem old 
 -- ---- the parts of the walk, one behind the other
 
 module _ (ns : List Float) (tol : Float) (e : Ends) (h : Held) where
-  pub front-refused : (r : Refusal) → at_vertex ns tol 0 ≡ refusal r → refusal r ≡ front_onto ns tol e h
+  pub front-refused : (r : Refusal) → at_vertex ns tol 0 ≡ Err r → Err r ≡ front_onto ns tol e h
   unfolding front_onto from_front
   front-refused r f = rw f
 
-  module _ (front : CurveStation2) (at : at_vertex ns tol 0 ≡ result front) (h₂ : Held) (p : h₂ ≡ put h.kept.count front.point h.output) where
-    as_leg : (leg_onto ns tol e (last_index ns tol) front h₂ >>= λ l. result l.held) ≡ front_onto ns tol e h
+  module _ (front : CurveStation2) (at : at_vertex ns tol 0 ≡ Ok front) (h₂ : Held) (p : h₂ ≡ put h.kept.count front.point h.output) where
+    as_leg : (leg_onto ns tol e (last_index ns tol) front h₂ >>= λ l. Ok l.held) ≡ front_onto ns tol e h
     unfolding front_onto from_front leg_onto put_on
     as_leg = rw (at, p) (go (leg_from ns tol e (last_index ns tol) front))
       where
-        go : (a : Answer Leg) → ((a >>= λ l. result (leg_put (put h.kept.count front.point h.output) l)) >>= λ l. result l.held)
-            ≡ ((a >>= λ leg. result (front.point ∷ leg.points)) >>= λ ps. result (put_on h ps))
-        go (refusal r) = refl
-        go (result l) = refl
+        go : (a : Answer Leg) → ((a >>= λ l. Ok (leg_put (put h.kept.count front.point h.output) l)) >>= λ l. Ok l.held)
+            ≡ ((a >>= λ leg. Ok (front.point ∷ leg.points)) >>= λ ps. Ok (put_on h ps))
+        go (Err r) = refl
+        go (Ok l) = refl
 
-    pub front-leg-refused : (r : Refusal) → refusal r ≡ leg_onto ns tol e (last_index ns tol) front h₂ → refusal r ≡ front_onto ns tol e h
+    pub front-leg-refused : (r : Refusal) → Err r ≡ leg_onto ns tol e (last_index ns tol) front h₂ → Err r ≡ front_onto ns tol e h
     front-leg-refused r f = rw (← f) at as_leg
 
-    pub front-leg : (l : LegHeld) → result l ≡ leg_onto ns tol e (last_index ns tol) front h₂ → result l.held ≡ front_onto ns tol e h
+    pub front-leg : (l : LegHeld) → Ok l ≡ leg_onto ns tol e (last_index ns tol) front h₂ → Ok l.held ≡ front_onto ns tol e h
     front-leg l f = rw (← f) at as_leg
 
 module _ (ns : List Float) (tol : Float) (e : Ends) (h : Held) where
   abbrev pub first : Answer LegHeld
   first = leg_onto ns tol e (last_index ns tol - e.start.index) e.start h
 
-  by_first : (first >>= λ l. cond (l.over && wrap e) (front_onto ns tol e l.held) (result l.held)) ≡ walk_onto ns tol e h
+  by_first : (first >>= λ l. cond (l.over && wrap e) (front_onto ns tol e l.held) (Ok l.held)) ≡ walk_onto ns tol e h
   unfolding walk_onto walked leg_onto front_onto
   by_first = go (leg_from ns tol e (last_index ns tol - e.start.index) e.start)
     where
-      over : (l : Leg) (b : Bool) (f : Answer (List Point2)) → cond b (f >>= λ ps. result (put_on (put_on h l.points) ps)) (result (put_on h l.points))
-          ≡ (cond b (f >>= λ ps. result (l.points ++ ps)) (result l.points) >>= λ ps. result (put_on h ps))
+      over : (l : Leg) (b : Bool) (f : Answer (List Point2)) → cond b (f >>= λ ps. Ok (put_on (put_on h l.points) ps)) (Ok (put_on h l.points))
+          ≡ (cond b (f >>= λ ps. Ok (l.points ++ ps)) (Ok l.points) >>= λ ps. Ok (put_on h ps))
       over l false f = refl
-      over l true (refusal r) = refl
-      over l true (result ps) = rw (put_then h l.points ps)
+      over l true (Err r) = refl
+      over l true (Ok ps) = rw (put_then h l.points ps)
 
-      go : (a : Answer Leg) → ((a >>= λ l. result (leg_put h l)) >>= λ l. cond (l.over && wrap e) (from_front ns tol e >>= λ ps. result (put_on l.held ps)) (result l.held))
-          ≡ ((a >>= λ first. cond (first.over && wrap e) (from_front ns tol e >>= λ ps. result (first.points ++ ps)) (result first.points)) >>= λ ps. result (put_on h ps))
-      go (refusal r) = refl
-      go (result l) = over l (l.over && wrap e) (from_front ns tol e)
+      go : (a : Answer Leg) → ((a >>= λ l. Ok (leg_put h l)) >>= λ l. cond (l.over && wrap e) (from_front ns tol e >>= λ ps. Ok (put_on l.held ps)) (Ok l.held))
+          ≡ ((a >>= λ first. cond (first.over && wrap e) (from_front ns tol e >>= λ ps. Ok (first.points ++ ps)) (Ok first.points)) >>= λ ps. Ok (put_on h ps))
+      go (Err r) = refl
+      go (Ok l) = over l (l.over && wrap e) (from_front ns tol e)
 
-  pub walk_refused : (r : Refusal) → refusal r ≡ first → refusal r ≡ walk_onto ns tol e h
+  pub walk_refused : (r : Refusal) → Err r ≡ first → Err r ≡ walk_onto ns tol e h
   walk_refused r f = rw (← f) at by_first
 
-  module _ (l : LegHeld) (f : result l ≡ first) where
-    pub walk_inside : l.over ≡ false → result l.held ≡ walk_onto ns tol e h
+  module _ (l : LegHeld) (f : Ok l ≡ first) where
+    pub walk_inside : l.over ≡ false → Ok l.held ≡ walk_onto ns tol e h
     walk_inside o = rw (← f, o) at by_first
 
-    pub walk_ahead : l.over ≡ true → wrap e ≡ false → result l.held ≡ walk_onto ns tol e h
+    pub walk_ahead : l.over ≡ true → wrap e ≡ false → Ok l.held ≡ walk_onto ns tol e h
     walk_ahead o w = rw (← f, o, w) at by_first
 
     pub walk_over : l.over ≡ true → wrap e ≡ true → front_onto ns tol e l.held ≡ walk_onto ns tol e h
@@ -216,10 +208,10 @@ module _ (ns : List Float) (tol : Float) (e : Ends) (h : Held) where
     unfolding leg_onto
     over-count o = go (leg_from ns tol e (last_index ns tol - e.start.index) e.start) refl f
       where
-        go : (a : Answer Leg) → leg_from ns tol e (last_index ns tol - e.start.index) e.start ≡ a → result l ≡ (a >>= λ l. result (leg_put h l))
+        go : (a : Answer Leg) → leg_from ns tol e (last_index ns tol - e.start.index) e.start ≡ a → Ok l ≡ (a >>= λ l. Ok (leg_put h l))
             → l.held.kept.count ≡ h.kept.count + (last_index ns tol - e.start.index)
-        go (refusal r) p g = let z : ◌≡◌ {A = ℕ} 0 1 = cc in absurd (omega arith)
-        go (result leg) p g =
+        go (Err r) p g = let z : ◌≡◌ {A = ℕ} 0 1 = cc in absurd (omega arith)
+        go (Ok leg) p g =
             let is : l ≡ leg_put h leg = cc in
             let few = leg_few ns tol e (last_index ns tol - e.start.index) e.start leg p in
             let o₂ : leg.over ≡ true = ap (λ (x : LegHeld). x.over) (sym is) ∙ o in
@@ -231,18 +223,16 @@ module _ (ns : List Float) (tol : Float) (e : Ends) (k : Walkable ns tol e) wher
   pub edges : 1 ≤ last_vertex ns
   edges = omega (arith, k.end)
 
-  module _ (front : CurveStation2) (at : at_vertex ns tol 0 ≡ result front) where
+  module _ (front : CurveStation2) (at : at_vertex ns tol 0 ≡ Ok front) where
     pub front_on : front.index < last_vertex ns
     front_on = omega (arith, (front_ahead ns tol e front k at).1, edges)
 
-    pub front_ready : (w : Working) → w ≡ working_at ns front → (left count room : ℕ) → 2 * (count + e.end.index) ≤ room
-        → ((HasPoints ns × (w.station.index < last_vertex ns)) × ((w ≡ working_at ns w.station) × Room ns e left w.station count room))
-    front_ready w is left count room h = rw is ((k.points, front_on), (refl, inr ((front_ahead ns tol e front k at).0, omega (arith, h, (front_ahead ns tol e front k at).1))))
+    pub front_room : (w : Working) → w ≡ working_at ns front → (left count room : ℕ) → 2 * (count + e.end.index) ≤ room → Room ns e left w.station count room
+    front_room w is left count room h = rw is (inr ((front_ahead ns tol e front k at).0, omega (arith, h, (front_ahead ns tol e front k at).1)))
 
-  pub start_ready : (w : Working) → w ≡ working_at ns e.start → (left : ℕ) → left ≡ last_index ns tol - e.start.index → (count : ℕ) → count ≡ 1 → (room : ℕ) → length ns ≤ room
-      → ((HasPoints ns × (w.station.index < last_vertex ns)) × ((w ≡ working_at ns w.station) × Room ns e left w.station count room))
-  start_ready w is left l count c room h = rw is ((k.points, k.start), (refl, inl (omega (arith, l, c, h, last_most ns tol, k.points.least))))
+  pub start_room : (w : Working) → w ≡ working_at ns e.start → (left : ℕ) → left ≡ last_index ns tol - e.start.index → (count : ℕ) → count ≡ 1 → (room : ℕ) → length ns ≤ room → Room ns e left w.station count room
+  start_room w is left l count c room h = rw is (inl (omega (arith, l, c, h, last_most ns tol, k.points.least)))
 
-  pub over_room : (h : Held) (l : LegHeld) → result l ≡ first ns tol e h → h.kept.count ≡ 1 → l.over ≡ true → wrap e ≡ true → (room : ℕ) → length ns ≤ room
+  pub over_room : (h : Held) (l : LegHeld) → Ok l ≡ first ns tol e h → h.kept.count ≡ 1 → l.over ≡ true → wrap e ≡ true → (room : ℕ) → length ns ≤ room
       → 2 * (l.held.kept.count + 1 + e.end.index) ≤ room
   over_room h l f one o w room r = omega (arith, over-count ns tol e h l f o, one, r, k.order w, last_closed ns tol e k w, k.start)

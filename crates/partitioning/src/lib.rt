@@ -4,18 +4,18 @@
 pub mod stretch;
 pub mod walk;
 
-ghost use Rattle.std.specs.Prelude.{◌≡◌, ◌&&◌, ◌||◌, ◌+◌, ◌*◌, ◌≤◌, length};
-ghost use Rattle.std.specs.Float.Ieee.Scale.{finite};
-ghost use Rattle.errors.specs.Answer.{result as answered};
+ghost use Rattle.curve2.specs.Lent.{IsLent};
+ghost use Rattle.errors.specs.Answer.{passed};
+ghost use Rattle.std.specs.Prelude.{◌≡◌, ◌≤◌, min, length, Ok, IfOk};
 ghost use Rattle.curve2.specs.Section.{points_of};
-ghost use Rattle.curve2.specs.Entry.{IsSection, listed_entry};
-ghost use Rattle.cleaning.specs.Cleaning.{kept, most_cleaned};
-ghost use Rattle.partitioning.specs.Pieces.{stretch_of, both_of, is_short, stretch_entry, between_lengths, split_open, split_closed, Cut, CutInTwo};
+ghost use Rattle.partitioning.specs.Code.{IsCuttable};
+ghost use Rattle.partitioning.specs.Pieces.{cleaned_stretch, stretch_of, both_of, is_short, stretch_entry, between_lengths, split_open, split_closed, Cut, CutInTwo};
 
-use crate::walk::CountAnswer;
 use cleaning::MOST_CLEANED;
-use curve2::{AlsoBad, CurveStation2, Entry, MOST_POINTS, entering};
-use errors::Refusal;
+use cleaning::checked::Uncleaned;
+use curve2::checked::Curve2;
+use curve2::{AlsoBad, CurveStation2, MOST_POINTS, entering};
+use errors::{Finite, Refusal};
 
 // The points that a walk gives the cleaning stand in an array of as many numbers: they are one more than the section's at most.
 const MOST_GIVEN: usize = 2 * MOST_POINTS;
@@ -29,25 +29,12 @@ pub struct Ends {
     pub to: f64,
 }
 
-#[derive(Clone, Copy)]
-pub enum EndsAnswer {
-    Value(Ends),
-    Refused(Refusal),
-}
-
 // A piece in an output: how many points it has, whether its ends meet, and how many points the walk gave the cleaning.
 #[derive(Clone, Copy)]
 pub struct Piece {
     pub count: usize,
     pub is_closed: bool,
     pub given: usize,
-}
-
-// A piece, or why there is none.
-#[derive(Clone, Copy)]
-pub enum PieceAnswer {
-    Value(Piece),
-    Refused(Refusal),
 }
 
 // Both pieces of a split.
@@ -57,165 +44,114 @@ pub struct Pieces {
     pub second: Piece,
 }
 
-// Both pieces, or why there are none.
-#[derive(Clone, Copy)]
-pub enum PiecesAnswer {
-    Value(Pieces),
-    Refused(Refusal),
-}
-
 // ---- the entry tests
 
-// The entry tests of a section with at most 4,095 points, with whether the lengths are finite (2) and whether an output is too short (4).
-fn entered(section: &[f64], tol: f64, good: bool, short: bool) -> Entry
-    ensures { listed_entry result ≡ stretch_entry section.now tol good short }
+// The entry tests of a section with at most 4,095 points, with whether the lengths are finite (2) and the length of the shortest output (4).
+#[tactic(auto, unfolding(crate::specs::Pieces::stretch_entry))]
+fn entered(section: &[f64], tol: f64, is_finite: bool, room: usize) -> Result<Curve2<'_>, Refusal>
+    ensures entry { passed result ≡ stretch_entry section.now tol is_finite (is_short section.now room) }
+    ensures lent { IsLent section.now tol result }
+    ensures ready { IfOk result (λ s. IsCuttable s.points.now s.tol room) }
 {
     if entering::is_bad_count(MOST_CLEANED, section.len()) {
-        return Entry::Refused(Refusal::PointCount);
+        return Err(Refusal::PointCount);
     }
     let also = AlsoBad {
-        number: !good,
+        number: !is_finite,
         tolerance: false,
         finer: false,
-        room: short,
+        room: room < section.len() + 2,
     };
     entering::section_entry(section, tol, also)
-}
-
-fn are_finite(a: f64, b: f64) -> bool
-    ensures { result ≡ (finite a && finite b) }
-{
-    if errors::is_finite(a) {
-        return errors::is_finite(b);
-    }
-    false
-}
-
-// Whether an output is shorter than the section plus two numbers.
-fn is_short(section: &[f64], room: usize) -> bool
-    ensures { result ≡ is_short section.now room }
-{
-    room < section.len() + 2
-}
-
-fn is_either_short(section: &[f64], room0: usize, room1: usize) -> bool
-    ensures { result ≡ (is_short section.now room0 || is_short section.now room1) }
-{
-    if is_short(section, room0) {
-        return true;
-    }
-    is_short(section, room1)
 }
 
 // ---- pieces
 
 // The piece of the points given, of which two or more are kept.
-fn cut(points: &[f64], tol: f64, given: usize, out: &mut [f64]) -> Piece
-    requires points_len { (length points.now ≡ 2 * given) × (1 ≤ given) }
-    requires points_in_bounds { length points.now ≤ length out.old }
-    ensures { Cut (answered (record { points = kept tol (points_of points.now); given = given })) tol out.old out.new (PieceAnswer.Value result) }
+fn cut(given: &Uncleaned<'_>, out: &mut [f64]) -> Piece
+    requires { length given.now.points.now ≤ length out.old }
+    ensures { Cut (Ok (cleaned_stretch given.now.tol (points_of given.now.points.now))) given.now.tol out.old out.new (Ok result) }
 {
-    let c = cleaning::checked::keep_points(points, tol, out);
-    let count = c.count;
-    let is_closed = c.is_closed;
+    let c = given.clean(false, out);
     Piece {
-        count,
-        is_closed,
-        given,
+        count: c.count,
+        is_closed: c.is_closed,
+        given: given.points.len() / 2,
     }
 }
 
 // The piece between two lengths along a section whose entry tests passed.
-fn between(section: &[f64], tol: f64, l0: f64, l1: f64, out: &mut [f64]) -> PieceAnswer
-    requires section { IsSection section.now tol × (length section.now ≤ 2 * most_cleaned) }
-    requires section_in_bounds { length section.now + 2 ≤ length out.old }
-    ensures { Cut (stretch_of section.now tol l0 l1) tol out.old out.new result }
+fn between(section: &Curve2<'_>, l0: f64, l1: f64, out: &mut [f64]) -> Result<Piece, Refusal>
+    requires { IsCuttable section.now.points.now section.now.tol (length out.old) }
+    ensures { Cut (stretch_of section.now.points.now section.now.tol l0 l1) section.now.tol out.old out.new result }
 {
     let mut points = [0.0; MOST_GIVEN];
-    match stretch::give(section, tol, l0, l1, &mut points) {
-        CountAnswer::Value(given) => {
-            let n = 2 * given;
-            let p = cut(&points[..n], tol, given, out);
-            PieceAnswer::Value(p)
-        }
-        CountAnswer::Refused(r) => PieceAnswer::Refused(r),
-    }
+    let given = stretch::give(section, l0, l1, &mut points)?;
+    Ok(cut(&given, out))
 }
 
 // Both pieces of a split, from a0 to a1 and from b0 to b1. No output is written before the points of both stand.
 fn split(
-    section: &[f64],
-    tol: f64,
+    section: &Curve2<'_>,
     a0: f64,
     a1: f64,
     b0: f64,
     b1: f64,
     out0: &mut [f64],
     out1: &mut [f64],
-) -> PiecesAnswer
-    requires section { IsSection section.now tol × (length section.now ≤ 2 * most_cleaned) }
-    requires section_in_bounds { (length section.now + 2 ≤ length out0.old) × (length section.now + 2 ≤ length out1.old) }
-    ensures { CutInTwo (both_of (stretch_of section.now tol a0 a1) (stretch_of section.now tol b0 b1)) tol out0.old out0.new out1.old out1.new result }
+) -> Result<Pieces, Refusal>
+    requires { IsCuttable section.now.points.now section.now.tol (min (length out0.old) (length out1.old)) }
+    ensures { CutInTwo (both_of (stretch_of section.now.points.now section.now.tol a0 a1) (stretch_of section.now.points.now section.now.tol b0 b1)) section.now.tol out0.old out0.new out1.old out1.new result }
 {
     let mut first = [0.0; MOST_GIVEN];
     let mut second = [0.0; MOST_GIVEN];
-    match stretch::give(section, tol, a0, a1, &mut first) {
-        CountAnswer::Value(i) => match stretch::give(section, tol, b0, b1, &mut second) {
-            CountAnswer::Value(j) => {
-                let n = 2 * i;
-                let m = 2 * j;
-                let a = cut(&first[..n], tol, i, out0);
-                let b = cut(&second[..m], tol, j, out1);
-                PiecesAnswer::Value(Pieces {
-                    first: a,
-                    second: b,
-                })
-            }
-            CountAnswer::Refused(r) => PiecesAnswer::Refused(r),
-        },
-        CountAnswer::Refused(r) => PiecesAnswer::Refused(r),
-    }
+    let a = stretch::give(section, a0, a1, &mut first)?;
+    let b = stretch::give(section, b0, b1, &mut second)?;
+    Ok(Pieces {
+        first: cut(&a, out0),
+        second: cut(&b, out1),
+    })
 }
 
 // ---- the entry points
 
 // The part of a section between two lengths along, which runs over the seam of a closed section where the second length lies before the first.
-pub fn between_lengths(section: &[f64], tol: f64, l0: f64, l1: f64, out: &mut [f64]) -> PieceAnswer
+#[tactic(auto, unfolding(crate::specs::Pieces::between_lengths))]
+pub fn between_lengths(
+    section: &[f64],
+    tol: f64,
+    l0: f64,
+    l1: f64,
+    out: &mut [f64],
+) -> Result<Piece, Refusal>
     ensures { Cut (between_lengths section.now tol l0 l1 (length out.old)) tol out.old out.new result }
 {
-    let good = are_finite(l0, l1);
-    let short = is_short(section, out.len());
-    match entered(section, tol, good, short) {
-        Entry::Passed => between(section, tol, l0, l1, out),
-        Entry::Refused(r) => PieceAnswer::Refused(r),
-    }
+    let is_finite = l0.all_finite() && l1.all_finite();
+    let curve = entered(section, tol, is_finite, out.len())?;
+    between(&curve, l0, l1, out)
 }
 
 // An open section split at a length along: 22 where it is closed.
+#[tactic(auto, unfolding(crate::specs::Pieces::split_open))]
 pub fn split_open_at_length(
     section: &[f64],
     tol: f64,
     at: f64,
     out0: &mut [f64],
     out1: &mut [f64],
-) -> PiecesAnswer
+) -> Result<Pieces, Refusal>
     ensures { CutInTwo (split_open section.now tol at (length out0.old) (length out1.old)) tol out0.old out0.new out1.old out1.new result }
 {
-    let good = errors::is_finite(at);
-    let short = is_either_short(section, out0.len(), out1.len());
-    match entered(section, tol, good, short) {
-        Entry::Passed => {
-            if curve2::checked::is_closed(section, tol) {
-                return PiecesAnswer::Refused(Refusal::WrongKind);
-            }
-            let whole = curve2::checked::whole_length(section);
-            split(section, tol, 0.0, at, at, whole, out0, out1)
-        }
-        Entry::Refused(r) => PiecesAnswer::Refused(r),
+    let room = out0.len().min(out1.len());
+    let curve = entered(section, tol, at.all_finite(), room)?;
+    if curve.is_closed() {
+        return Err(Refusal::WrongKind);
     }
+    split(&curve, 0.0, at, at, curve.whole_length(), out0, out1)
 }
 
 // A closed section split at two lengths along: 22 where it is open.
+#[tactic(auto, unfolding(crate::specs::Pieces::split_closed))]
 pub fn split_closed_at_lengths(
     section: &[f64],
     tol: f64,
@@ -223,18 +159,14 @@ pub fn split_closed_at_lengths(
     length1: f64,
     out0: &mut [f64],
     out1: &mut [f64],
-) -> PiecesAnswer
+) -> Result<Pieces, Refusal>
     ensures { CutInTwo (split_closed section.now tol length0 length1 (length out0.old) (length out1.old)) tol out0.old out0.new out1.old out1.new result }
 {
-    let good = are_finite(length0, length1);
-    let short = is_either_short(section, out0.len(), out1.len());
-    match entered(section, tol, good, short) {
-        Entry::Passed => {
-            if !curve2::checked::is_closed(section, tol) {
-                return PiecesAnswer::Refused(Refusal::WrongKind);
-            }
-            split(section, tol, length0, length1, length1, length0, out0, out1)
-        }
-        Entry::Refused(r) => PiecesAnswer::Refused(r),
+    let is_finite = length0.all_finite() && length1.all_finite();
+    let room = out0.len().min(out1.len());
+    let curve = entered(section, tol, is_finite, room)?;
+    if !curve.is_closed() {
+        return Err(Refusal::WrongKind);
     }
+    split(&curve, length0, length1, length1, length0, out0, out1)
 }

@@ -1,20 +1,19 @@
 // The walk from one station of a section to another, which puts the points that it gives the cleaning.
 ghost use Rattle.std.specs.Prelude.{◌≡◌, ◌+◌, ◌*◌, ◌≤◌, ◌<◌, length};
-ghost use Rattle.curve2.specs.Entry.{HasPoints};
 ghost use Rattle.curve2.specs.Stations.{last_vertex};
 ghost use Rattle.cleaning.specs.Code.{put};
-ghost use Rattle.sections.specs.Asked.{listed_bool};
 ghost use Rattle.partitioning.specs.Walk.{last_index, reached, given_between};
-ghost use Rattle.partitioning.specs.Code.{Walkable, working_at, next_of, turn_of, listed_turn, Room, held, leg_onto, listed_leg, front_onto, walk_onto, listed_put, Laid};
+ghost use Rattle.partitioning.specs.Code.{Walkable, IsOn, working_at, next_of, turn_of, Room, held, leg_onto, listed_leg, front_onto, walk_onto, listed_put, Laid};
 
 use crate::Ends;
 use cleaning::Kept;
 use cleaning::checked::put;
-use curve2::{CurveStation2, StationAnswer};
-use errors::{Refusal, ScalarAnswer};
-use sections::BoolAnswer;
+use curve2::checked::{Curve2, edge_length};
+use curve2::{CurveStation2, plain_dist};
+use errors::{Refusal, watch};
 
-// Where the walk is: a station, and the lengths at both vertices of its edge.
+// Where the walk is: a station, and the lengths at both vertices of its edge. That they are its section's lengths is asked of each function (`IsOn`),
+// since to keep it as a ghost field each would have to hold the section as well.
 #[derive(Clone, Copy)]
 pub struct Working {
     pub station: CurveStation2,
@@ -22,261 +21,153 @@ pub struct Working {
     pub n: f64,
 }
 
-// One turn of the walk.
-#[derive(Clone, Copy)]
-pub enum Turn {
-    Stopped,
-    Next(Working),
-    Refused(Refusal),
-}
-
-// What a leg put, and whether it went over the last index.
+// What a leg put, and whether it went over the last index. What it put stands in both cases, so an enum of them would be no plainer.
 #[derive(Clone, Copy)]
 pub struct LegKept {
     pub kept: Kept,
     pub over: bool,
 }
 
+// A walk between two stations of a section.
 #[derive(Clone, Copy)]
-pub enum LegAnswer {
-    Value(LegKept),
-    Refused(Refusal),
+pub struct Walk<'a> {
+    pub section: Curve2<'a>,
+    pub ends: Ends,
+    pub ghost walkable: { Walkable section.points.now section.tol ends },
 }
 
-// How many points were put and the last of them, or why there are none.
-#[derive(Clone, Copy)]
-pub enum PutAnswer {
-    Value(Kept),
-    Refused(Refusal),
-}
+impl Walk<'_> {
+    // ---- one turn
 
-// How many points are given, or why there are none.
-#[derive(Clone, Copy)]
-pub enum CountAnswer {
-    Value(usize),
-    Refused(Refusal),
-}
-
-// ---- one turn
-
-// A station, with the lengths at both vertices of its edge.
-fn working_at(section: &[f64], station: CurveStation2) -> Working
-    requires { HasPoints section.now × (station.index < last_vertex section.now) }
-    ensures { result ≡ working_at section.now station }
-{
-    let index = station.index;
-    let m = sections::checked::length_to(section, index);
-    let n = curve2::checked::edge_length(section, 2 * index) + m;
-    Working { station, m, n }
-}
-
-// Whether the walk ends here: the end lies on the edge behind.
-fn is_reached(section: &[f64], ends: Ends, w: Working) -> BoolAnswer
-    requires w_value { w ≡ working_at section.now w.station }
-    requires index_bound { w.station.index < last_vertex section.now }
-    ensures { listed_bool result ≡ reached section.now ends w.station }
-{
-    let station = w.station;
-    let m = w.m;
-    let n = w.n;
-    let index = station.index;
-    let fraction = station.fraction;
-    let end = ends.end;
-    let to = ends.to;
-    let end_index = end.index;
-    match errors::watch(m + (n - m) * fraction) {
-        ScalarAnswer::Value(at) => {
-            if at <= to {
-                return BoolAnswer::Value(end_index < index + 1);
-            }
-            BoolAnswer::Value(false)
-        }
-        ScalarAnswer::Refused(r) => BoolAnswer::Refused(r),
+    // A station, with the lengths at both vertices of its edge.
+    fn working_at(&self, station: CurveStation2) -> Working
+        requires { station.index < last_vertex self.now.section.points.now }
+        ensures value { result ≡ working_at self.now.section.points.now station }
+        ensures on { IsOn self.now.section.points.now result }
+    {
+        let m = sections::checked::length_to(&self.section, station.index);
+        let n = edge_length(self.section.points, 2 * station.index) + m;
+        Working { station, m, n }
     }
-}
 
-// The next vertex. The last one lies on the same edge as the one before it.
-fn next(section: &[f64], tol: f64, w: Working) -> Turn
-    requires has_points { HasPoints section.now × (w.station.index < last_vertex section.now) }
-    requires w_value { w ≡ working_at section.now w.station }
-    ensures { listed_turn result ≡ next_of section.now tol w.station }
-{
-    let station = w.station;
-    let m = w.m;
-    let n = w.n;
-    let index = station.index;
-    match curve2::checked::at_vertex(section, tol, index + 1) {
-        StationAnswer::Value(v) => {
-            let edge = v.index;
-            if edge == index {
-                return Turn::Next(Working { station: v, m, n });
-            }
-            let after = curve2::checked::edge_length(section, 2 * edge) + n;
-            Turn::Next(Working {
-                station: v,
-                m: n,
-                n: after,
-            })
-        }
-        StationAnswer::Refused(r) => Turn::Refused(r),
+    // Whether the walk ends here: the end lies on the edge behind.
+    #[tactic(auto, unfolding(crate::specs::Walk::reached, sections::specs::Places::length_along))]
+    fn is_reached(&self, w: Working) -> Result<bool, Refusal>
+        requires { IsOn self.now.section.points.now w }
+        ensures { result ≡ reached self.now.section.points.now self.now.ends w.station }
+    {
+        let at = watch(w.m + (w.n - w.m) * w.station.fraction)?;
+        Ok(at <= self.ends.to && self.ends.end.index < w.station.index + 1)
     }
-}
 
-// The end is reached, or the next vertex.
-fn take_turn(section: &[f64], tol: f64, ends: Ends, w: Working) -> Turn
-    requires has_points { HasPoints section.now × (w.station.index < last_vertex section.now) }
-    requires w_value { w ≡ working_at section.now w.station }
-    ensures { listed_turn result ≡ turn_of section.now tol ends w.station }
-{
-    match is_reached(section, ends, w) {
-        BoolAnswer::Value(stop) => {
-            if stop {
-                return Turn::Stopped;
-            }
-            next(section, tol, w)
-        }
-        BoolAnswer::Refused(r) => Turn::Refused(r),
-    }
-}
-
-// ---- a leg
-
-// The points behind a station, put one after the other, until the end is reached or no vertex is left before the last index.
-fn leg(
-    section: &[f64],
-    tol: f64,
-    ends: Ends,
-    left: usize,
-    from: Working,
-    points: &mut [f64],
-    before: Kept,
-) -> LegAnswer
-    requires has_points { HasPoints section.now × (from.station.index < last_vertex section.now) }
-    requires from_value { from ≡ working_at section.now from.station }
-    requires room { Room section.now ends left from.station before.count (length points.old) }
-    ensures { listed_leg result points.new ≡ leg_onto section.now tol ends left from.station (held before points.old) }
-{
-    let mut w = from;
-    let mut k = before;
-    let mut i = left;
-    while 0 < i {
-        match take_turn(section, tol, ends, w) {
-            Turn::Stopped => {
-                return LegAnswer::Value(LegKept {
-                    kept: k,
-                    over: false,
-                });
-            }
-            Turn::Next(v) => {
-                let station = v.station;
-                let point = station.point;
-                let count = k.count;
-                k = put(points, count, point);
-                w = v;
-                i -= 1;
-            }
-            Turn::Refused(r) => {
-                return LegAnswer::Refused(r);
-            }
+    // The next vertex. The last one lies on the same edge as the one before it.
+    #[tactic(auto, unfolding(crate::specs::Code::next_of))]
+    fn next(&self, w: Working) -> Result<Working, Refusal>
+        requires { IsOn self.now.section.points.now w }
+        ensures { result ≡ next_of self.now.section.points.now self.now.section.tol w.station }
+    {
+        let station = self.section.at_vertex(w.station.index + 1)?;
+        if station.index == w.station.index {
+            Ok(Working { station, ..w })
+        } else {
+            let n = edge_length(self.section.points, 2 * station.index) + w.n;
+            Ok(Working { station, m: w.n, n })
         }
     }
-    LegAnswer::Value(LegKept {
-        kept: k,
-        over: true,
-    })
-}
 
-// ---- the walk
-
-// The last vertex that a leg goes to: a closed section's last point is its first.
-fn last_index(section: &[f64], tol: f64) -> usize
-    requires { HasPoints section.now }
-    ensures { result ≡ last_index section.now tol }
-{
-    let last = section.len() / 2 - 1;
-    if curve2::checked::is_closed(section, tol) {
-        return last - 1;
+    // The end is reached, or the next vertex.
+    #[tactic(auto, unfolding(crate::specs::Code::turn_of))]
+    fn take_turn(&self, w: Working) -> Result<Option<Working>, Refusal>
+        requires { IsOn self.now.section.points.now w }
+        ensures { result ≡ turn_of self.now.section.points.now self.now.section.tol self.now.ends w.station }
+    {
+        if self.is_reached(w)? {
+            Ok(None)
+        } else {
+            Ok(Some(self.next(w)?))
+        }
     }
-    last
-}
 
-// From the front to the end.
-fn from_front(section: &[f64], tol: f64, ends: Ends, points: &mut [f64], before: Kept) -> PutAnswer
-    requires walkable { Walkable section.now tol ends }
-    requires index_in_bounds { 2 * (before.count + 1 + ends.end.index) ≤ length points.old }
-    ensures { listed_put result points.new ≡ front_onto section.now tol ends (held before points.old) }
-{
-    match curve2::checked::at_front(section, tol) {
-        StationAnswer::Value(front) => {
-            let point = front.point;
-            let count = before.count;
-            let k = put(points, count, point);
-            let w = working_at(section, front);
-            let last = last_index(section, tol);
-            match leg(section, tol, ends, last, w, points, k) {
-                LegAnswer::Value(l) => {
-                    let kept = l.kept;
-                    PutAnswer::Value(kept)
-                }
-                LegAnswer::Refused(r) => PutAnswer::Refused(r),
+    // ---- a leg
+
+    // The points behind a station, put one after the other, until the end is reached or no vertex is left before the last index.
+    fn leg(
+        &self,
+        left: usize,
+        from: Working,
+        points: &mut [f64],
+        before: Kept,
+    ) -> Result<LegKept, Refusal>
+        requires on { IsOn self.now.section.points.now from }
+        requires room { Room self.now.section.points.now self.now.ends left from.station before.count (length points.old) }
+        ensures { listed_leg result points.new ≡ leg_onto self.now.section.points.now self.now.section.tol self.now.ends left from.station (held before points.old) }
+    {
+        let mut w = from;
+        let mut kept = before;
+        for _turn in 0..left {
+            match self.take_turn(w)? {
+                None => return Ok(LegKept { kept, over: false }),
+                Some(next) => {
+                    kept = put(points, kept.count, next.station.point);
+                    w = next;
+                },
             }
         }
-        StationAnswer::Refused(r) => PutAnswer::Refused(r),
+        Ok(LegKept { kept, over: true })
     }
-}
 
-// From the start to the end, over the seam where that lies between them.
-fn walk_between(section: &[f64], tol: f64, ends: Ends, points: &mut [f64]) -> PutAnswer
-    requires walkable { Walkable section.now tol ends }
-    requires section_in_bounds { length section.now ≤ length points.old }
-    ensures { listed_put result points.new ≡ walk_onto section.now tol ends (put 0 ends.start.point points.old) }
-{
-    let start = ends.start;
-    let from = ends.from;
-    let to = ends.to;
-    let index = start.index;
-    let point = start.point;
-    let w = working_at(section, start);
-    let left = last_index(section, tol) - index;
-    let first = put(points, 0, point);
-    match leg(section, tol, ends, left, w, points, first) {
-        LegAnswer::Value(l) => {
-            let kept = l.kept;
-            let over = l.over;
-            if over {
-                if to < from {
-                    return from_front(section, tol, ends, points, kept);
-                }
-            }
-            PutAnswer::Value(kept)
+    // ---- the walk
+
+    // The last vertex that a leg goes to: a closed section's last point is its first.
+    fn last_index(&self) -> usize
+        ensures { result ≡ last_index self.now.section.points.now self.now.section.tol }
+    {
+        let last = self.section.last_vertex();
+        if self.section.is_closed() {
+            last - 1
+        } else {
+            last
         }
-        LegAnswer::Refused(r) => PutAnswer::Refused(r),
     }
-}
 
-// The points that the cleaning is given: the end's is the last of them only where it is farther than the tolerance from the one before it.
-pub(crate) fn give_between(section: &[f64], tol: f64, ends: Ends, points: &mut [f64]) -> CountAnswer
-    requires walkable { Walkable section.now tol ends }
-    requires section_in_bounds { length section.now + 2 ≤ length points.old }
-    ensures { Laid (given_between section.now tol ends) points.old points.new result }
-{
-    let end = ends.end;
-    let point = end.point;
-    let x = point.x;
-    let y = point.y;
-    match walk_between(section, tol, ends, points) {
-        PutAnswer::Value(k) => {
-            let last = k.last;
-            let count = k.count;
-            let lx = last.x;
-            let ly = last.y;
-            if tol < curve2::plain_dist(x, y, lx, ly) {
-                let all = put(points, count, point);
-                let more = all.count;
-                return CountAnswer::Value(more);
-            }
-            CountAnswer::Value(count)
+    // From the front to the end.
+    fn from_front(&self, points: &mut [f64], before: Kept) -> Result<Kept, Refusal>
+        requires { 2 * (before.count + 1 + self.now.ends.end.index) ≤ length points.old }
+        ensures { listed_put result points.new ≡ front_onto self.now.section.points.now self.now.section.tol self.now.ends (held before points.old) }
+    {
+        let front = self.section.at_front()?;
+        let first = put(points, before.count, front.point);
+        let w = self.working_at(front);
+        let leg = self.leg(self.last_index(), w, points, first)?;
+        Ok(leg.kept)
+    }
+
+    // From the start to the end, over the seam where that lies between them.
+    fn walk_between(&self, points: &mut [f64]) -> Result<Kept, Refusal>
+        requires { length self.now.section.points.now ≤ length points.old }
+        ensures { listed_put result points.new ≡ walk_onto self.now.section.points.now self.now.section.tol self.now.ends (put 0 self.now.ends.start.point points.old) }
+    {
+        let w = self.working_at(self.ends.start);
+        let left = self.last_index() - self.ends.start.index;
+        let first = put(points, 0, self.ends.start.point);
+        let leg = self.leg(left, w, points, first)?;
+        if leg.over && self.ends.to < self.ends.from {
+            self.from_front(points, leg.kept)
+        } else {
+            Ok(leg.kept)
         }
-        PutAnswer::Refused(r) => CountAnswer::Refused(r),
+    }
+
+    // The points that the cleaning is given: the end's is the last of them only where it is farther than the tolerance from the one before it.
+    pub(crate) fn give_between(&self, points: &mut [f64]) -> Result<usize, Refusal>
+        requires { length self.now.section.points.now + 2 ≤ length points.old }
+        ensures { Laid (given_between self.now.section.points.now self.now.section.tol self.now.ends) points.old points.new result }
+    {
+        let k = self.walk_between(points)?;
+        if self.section.tol < plain_dist(self.ends.end.point, k.last) {
+            Ok(put(points, k.count, self.ends.end.point).count)
+        } else {
+            Ok(k.count)
+        }
     }
 }

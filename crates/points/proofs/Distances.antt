@@ -11,7 +11,8 @@ use lib.Ieee.{Float, nan, inf, fin, binary64, low, up, down, round, fits, of_bit
 use lib.Ieee.Exact.{HasValue}
 use lib.Ieee.Fits.{add-fits}
 use lib.Ieee.Scale.{finite, grid, round_val, round_under}
-use Rattle.errors.specs.Answer.{Answer, result, refusal, watched, ◌>>=◌}
+use Rattle.std.specs.Prelude.{Ok, Err}
+use Rattle.errors.specs.Answer.{Answer, watched, ◌>>=◌}
 use Rattle.errors.specs.Numbers.{is_plus}
 use Rattle.errors.specs.declared.Refusal.TheVariants.{NotFinite}
 use Rattle.root.specs.Sqrt.{sqrt_of}
@@ -28,26 +29,26 @@ use Rattle.points.proofs.Plus.{unit_pos, plus, sized, add-finite, round-plus, pl
 
 -- ---- what is watched
 
-pub watched-finite : (x y : Float) → watched x ≡ result y → (x ≡ y) × T (finite x)
+pub watched-finite : (x y : Float) → watched x ≡ Ok y → (x ≡ y) × T (finite x)
 watched-finite x y e = go (finite x) refl e
   where
-    go : (b : Bool) → finite x ≡ b → cond b (result x) (refusal NotFinite) ≡ result y → (x ≡ y) × T (finite x)
+    go : (b : Bool) → finite x ≡ b → cond b (Ok x) (Err NotFinite) ≡ Ok y → (x ≡ y) × T (finite x)
     go true p e = (cc, rw p tt)
     go false p e = let z : ◌≡◌ {A = ℕ} 0 1 = cc in absurd (omega arith)
 
 abbrev pub FinitePoint : Point2 → Type 0
 FinitePoint p = T (finite p.x) × T (finite p.y)
 
-pub point-finite : (p q : Point2) → watched_point p ≡ result q → FinitePoint q
+pub point-finite : (p q : Point2) → watched_point p ≡ Ok q → FinitePoint q
 point-finite p q e = go (finite p.x) (finite p.y) refl refl e
   where
-    go : (a b : Bool) → finite p.x ≡ a → finite p.y ≡ b → cond (a && b) (result p) (refusal NotFinite) ≡ result q → FinitePoint q
+    go : (a b : Bool) → finite p.x ≡ a → finite p.y ≡ b → cond (a && b) (Ok p) (Err NotFinite) ≡ Ok q → FinitePoint q
     go true true u v e = let z : q ≡ p = cc in rw z (rw u tt, rw v tt)
     go true false u v e = let z : ◌≡◌ {A = ℕ} 0 1 = cc in absurd (omega arith)
     go false b u v e = let z : ◌≡◌ {A = ℕ} 0 1 = cc in absurd (omega arith)
 
 -- a vector's dot product with itself
-pub square-finite : (v : Vector2) (d : Float) → dot_of v v ≡ result d → (v.x *f v.x +f v.y *f v.y ≡ d) × T (finite (v.x *f v.x +f v.y *f v.y))
+pub square-finite : (v : Vector2) (d : Float) → dot_of v v ≡ Ok d → (v.x *f v.x +f v.y *f v.y ≡ d) × T (finite (v.x *f v.x +f v.y *f v.y))
 unfolding dot_of
 square-finite v d e = watched-finite (v.x *f v.x +f v.y *f v.y) d e
 
@@ -98,16 +99,16 @@ root_near (fin false (suc m) e) f p t =
     let small : square x < 2 ^ 1586 * 2 ^ 1586 = mul-lt-mul_of_pos_right {k = 2 ^ low binary64} (units_lt (suc m) e (fitting binary64 false m e f)) unit_pos in
     record { units = n; value = s.value; most = rw (← is) (not_beyond (square x) (magnitude (sqrt_of x)) (2 ^ 1586) small (r.nearer (fin false 1 (pos 512)) limit_fits).1) }
 
-pub dist_near : (a b : Point2) (d : Float) → dist_of a b ≡ result d → Near d
+pub dist_near : (a b : Point2) (d : Float) → dist_of a b ≡ Ok d → Near d
 unfolding dist_of norm_of
 dist_near a b d e = go (dot_of v v) refl e
   where
     v : Vector2
     v = minus a b
 
-    go : (x : Answer Float) → dot_of v v ≡ x → (x >>= λ y. watched (sqrt_of y)) ≡ result d → Near d
-    go (refusal n) is e = let z : ◌≡◌ {A = ℕ} 0 1 = cc in absurd (omega arith)
-    go (result y) is e =
+    go : (x : Answer Float) → dot_of v v ≡ x → (x >>= λ y. watched (sqrt_of y)) ≡ Ok d → Near d
+    go (Err n) is e = let z : ◌≡◌ {A = ℕ} 0 1 = cc in absurd (omega arith)
+    go (Ok y) is e =
         let w = square-finite v y is in
         let xy = add-finite (v.x *f v.x) (v.y *f v.y) w.1 in
         let p = plus-add (v.x *f v.x) (v.y *f v.y) (plus-square v.x xy.0) (plus-square v.y xy.1) w.1 in

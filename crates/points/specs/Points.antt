@@ -1,25 +1,29 @@
 -- Points and vectors: the small leaves, in the order of their list, and the leaf rule on quarter turns.
 -- A coordinate or direction worked out, a dot product and a length are watched (12). Where a difference goes straight into a dot product it is watched there:
 -- a part of it that isn't finite makes the product so. Assumes nothing.
-use Rattle.std.specs.Prelude.{◌&&◌, cond, Float}
+use Rattle.std.specs.Prelude.{Bool, ◌&&◌, cond, Float, Ok, Err}
 use Rattle.std.specs.Float.Ieee.{neg, eq}
 use Rattle.std.specs.Float.Ieee.Scale.{finite}
-use Rattle.errors.specs.Answer.{Answer, result, refusal, watched, ◌>>=◌}
+use Rattle.errors.specs.Answer.{Answer, watched, watched_as, ◌>>=◌}
 use Rattle.root.specs.Sqrt.{root_of}
 use Rattle.points.specs.Numbers.{◌+f◌, ◌-f◌, ◌*f◌, ◌/f◌, f0, f½}
 use Rattle.points.specs.declared.Point2.{Point2}
 use Rattle.points.specs.declared.Vector2.{Vector2}
-use Rattle.points.specs.declared.PointAnswer.{PointAnswer}
-use Rattle.points.specs.declared.VectorAnswer.{VectorAnswer}
 use Rattle.points.specs.declared.AngleDir.{AngleDir}
 use Rattle.points.specs.declared.AngleDir.TheVariants.{Cw, Ccw}
 use Rattle.errors.specs.declared.Refusal.TheVariants.{NotFinite, ZeroLength}
 
+abbrev pub finite_point : Point2 → Bool
+finite_point p = finite p.x && finite p.y
+
+abbrev pub finite_vector : Vector2 → Bool
+finite_vector v = finite v.x && finite v.y
+
 abbrev pub watched_point : Point2 → Answer Point2
-watched_point p = cond (finite p.x && finite p.y) (result p) (refusal NotFinite)
+watched_point p = watched_as finite_point p
 
 abbrev pub watched_vector : Vector2 → Answer Vector2
-watched_vector v = cond (finite v.x && finite v.y) (result v) (refusal NotFinite)
+watched_vector v = watched_as finite_vector v
 
 -- ---- plain sums
 
@@ -27,9 +31,17 @@ watched_vector v = cond (finite v.x && finite v.y) (result v) (refusal NotFinite
 abbrev pub minus : Point2 → Point2 → Vector2
 minus a b = record { x = a.x -f b.x; y = a.y -f b.y }
 
+-- p + v
+abbrev pub plus_vector : Point2 → Vector2 → Point2
+plus_vector p v = record { x = p.x +f v.x; y = p.y +f v.y }
+
+-- v × t
+abbrev pub times : Vector2 → Float → Vector2
+times v t = record { x = v.x *f t; y = v.y *f t }
+
 -- p + v × t
 abbrev pub moved : Point2 → Vector2 → Float → Point2
-moved p v t = record { x = p.x +f v.x *f t; y = p.y +f v.y *f t }
+moved p v t = plus_vector p (times v t)
 
 abbrev pub plus : Vector2 → Vector2 → Vector2
 plus a b = record { x = a.x +f b.x; y = a.y +f b.y }
@@ -69,14 +81,4 @@ mid_point_of a b = watched_point (moved b (minus a b) f½)
 
 -- "normalising divides by the length"; 11: "a vector to be normalised has length zero"
 unfoldable pub normalized : Vector2 → Answer Vector2
-normalized v = norm_of v >>= λ l. cond (eq l f0) (refusal ZeroLength) (watched_vector (divided_by v l))
-
--- ---- what the answers list: the result, or the refusal
-
-abbrev pub listed_point : PointAnswer → Answer Point2
-listed_point (PointAnswer.Value p) = result p
-listed_point (PointAnswer.Refused r) = refusal r
-
-abbrev pub listed_vector : VectorAnswer → Answer Vector2
-listed_vector (VectorAnswer.Value v) = result v
-listed_vector (VectorAnswer.Refused r) = refusal r
+normalized v = norm_of v >>= λ l. cond (eq l f0) (Err ZeroLength) (watched_vector (divided_by v l))

@@ -4,11 +4,11 @@
 pub mod segment2;
 
 ghost use Rattle.std.specs.Prelude.{◌≡◌};
-ghost use Rattle.errors.specs.Answer.{listed_scalar};
 ghost use Rattle.points.specs.Numbers.{is_within};
-ghost use Rattle.points.specs.Points.{watched_point, watched_vector, rotated, difference, dot_of, norm_of, dist_of, mid_point_of, normalized, listed_point, listed_vector};
+ghost use Rattle.points.specs.Points.{finite_point, finite_vector, minus, plus_vector, plus, times, divided_by, negated, rotated, difference, dot_of, norm_of, dist_of, mid_point_of, normalized};
 
-use errors::{Refusal, ScalarAnswer};
+use errors::{Finite, Refusal, watch};
+use std::ops::{Add, Div, Mul, Neg, Sub};
 
 #[derive(Clone, Copy)]
 pub struct Point2 {
@@ -29,147 +29,173 @@ pub enum AngleDir {
     Ccw,
 }
 
-// A point, or why there is none.
-#[derive(Clone, Copy)]
-pub enum PointAnswer {
-    Value(Point2),
-    Refused(Refusal),
+impl Finite for Point2 {
+    ghost finite = { finite_point };
+
+    fn all_finite(self) -> bool {
+        self.x.all_finite() && self.y.all_finite()
+    }
 }
 
-// A vector, or why there is none.
-#[derive(Clone, Copy)]
-pub enum VectorAnswer {
-    Value(Vector2),
-    Refused(Refusal),
+impl Finite for Vector2 {
+    ghost finite = { finite_vector };
+
+    fn all_finite(self) -> bool {
+        self.x.all_finite() && self.y.all_finite()
+    }
+}
+
+// Each operation below rounds once.
+impl Sub for Point2 {
+    type Output = Vector2;
+
+    ghost sub_gives = { λ a b v. v ≡ minus a b };
+
+    fn sub(self, rhs: Point2) -> Vector2 {
+        Vector2 {
+            x: self.x - rhs.x,
+            y: self.y - rhs.y,
+        }
+    }
+}
+
+impl Add<Vector2> for Point2 {
+    type Output = Point2;
+
+    ghost add_gives = { λ p v q. q ≡ plus_vector p v };
+
+    fn add(self, rhs: Vector2) -> Point2 {
+        Point2 {
+            x: self.x + rhs.x,
+            y: self.y + rhs.y,
+        }
+    }
+}
+
+impl Add for Vector2 {
+    type Output = Vector2;
+
+    ghost add_gives = { λ a b v. v ≡ plus a b };
+
+    fn add(self, rhs: Vector2) -> Vector2 {
+        Vector2 {
+            x: self.x + rhs.x,
+            y: self.y + rhs.y,
+        }
+    }
+}
+
+impl Mul<f64> for Vector2 {
+    type Output = Vector2;
+
+    ghost mul_gives = { λ v t r. r ≡ times v t };
+
+    fn mul(self, rhs: f64) -> Vector2 {
+        Vector2 {
+            x: self.x * rhs,
+            y: self.y * rhs,
+        }
+    }
+}
+
+impl Div<f64> for Vector2 {
+    type Output = Vector2;
+
+    ghost div_gives = { λ v l r. r ≡ divided_by v l };
+
+    fn div(self, rhs: f64) -> Vector2 {
+        Vector2 {
+            x: self.x / rhs,
+            y: self.y / rhs,
+        }
+    }
+}
+
+impl Neg for Vector2 {
+    type Output = Vector2;
+
+    ghost neg_gives = { λ v r. r ≡ negated v };
+
+    fn neg(self) -> Vector2 {
+        Vector2 {
+            x: -self.x,
+            y: -self.y,
+        }
+    }
 }
 
 // Whether x is below the bound in size.
 pub fn is_within(bound: f64, x: f64) -> bool
     ensures { result ≡ is_within bound x }
 {
-    if -bound < x { x < bound } else { false }
+    -bound < x && x < bound
 }
 
-// A point whose coordinates were worked out: 12 where one isn't finite.
-pub fn watch_point(p: Point2) -> PointAnswer
-    ensures { listed_point result ≡ watched_point p }
+// a - b, watched.
+#[tactic(auto, unfolding(crate::specs::Points::difference))]
+pub fn difference(a: Point2, b: Point2) -> Result<Vector2, Refusal>
+    ensures { result ≡ difference a b }
 {
-    let x = p.x;
-    let y = p.y;
-    if !errors::is_finite(x) {
-        return PointAnswer::Refused(Refusal::NotFinite);
-    }
-    if !errors::is_finite(y) {
-        return PointAnswer::Refused(Refusal::NotFinite);
-    }
-    PointAnswer::Value(p)
-}
-
-// A direction that was worked out: 12 where a part of it isn't finite.
-pub(crate) fn watch_vector(v: Vector2) -> VectorAnswer
-    ensures { listed_vector result ≡ watched_vector v }
-{
-    let x = v.x;
-    let y = v.y;
-    if !errors::is_finite(x) {
-        return VectorAnswer::Refused(Refusal::NotFinite);
-    }
-    if !errors::is_finite(y) {
-        return VectorAnswer::Refused(Refusal::NotFinite);
-    }
-    VectorAnswer::Value(v)
-}
-
-// a - b.
-pub fn difference(a: Point2, b: Point2) -> VectorAnswer
-    ensures { listed_vector result ≡ difference a b }
-{
-    let ax = a.x;
-    let ay = a.y;
-    let bx = b.x;
-    let by = b.y;
-    watch_vector(Vector2 {
-        x: ax - bx,
-        y: ay - by,
-    })
+    watch(a - b)
 }
 
 // The distance of two points.
-pub fn dist(a: Point2, b: Point2) -> ScalarAnswer
-    ensures { listed_scalar result ≡ dist_of a b }
+#[tactic(auto, unfolding(crate::specs::Points::dist_of))]
+pub fn dist(a: Point2, b: Point2) -> Result<f64, Refusal>
+    ensures { result ≡ dist_of a b }
 {
-    let ax = a.x;
-    let ay = a.y;
-    let bx = b.x;
-    let by = b.y;
-    let v = Vector2 {
-        x: ax - bx,
-        y: ay - by,
-    };
-    v.norm()
+    (a - b).norm()
 }
 
 // The point halfway between two points.
-pub fn mid_point(a: Point2, b: Point2) -> PointAnswer
-    ensures { listed_point result ≡ mid_point_of a b }
+#[tactic(auto, unfolding(crate::specs::Points::mid_point_of))]
+pub fn mid_point(a: Point2, b: Point2) -> Result<Point2, Refusal>
+    ensures { result ≡ mid_point_of a b }
 {
-    let ax = a.x;
-    let ay = a.y;
-    let bx = b.x;
-    let by = b.y;
-    watch_point(Point2 {
-        x: bx + (ax - bx) * 0.5,
-        y: by + (ay - by) * 0.5,
-    })
+    watch(b + (a - b) * 0.5)
 }
 
 impl Vector2 {
-    pub fn dot(self, other: Vector2) -> ScalarAnswer
-        ensures { listed_scalar result ≡ dot_of self other }
+    #[tactic(auto, unfolding(crate::specs::Points::dot_of))]
+    pub fn dot(self, other: Vector2) -> Result<f64, Refusal>
+        ensures { result ≡ dot_of self other }
     {
-        let ax = self.x;
-        let ay = self.y;
-        let bx = other.x;
-        let by = other.y;
-        errors::watch(ax * bx + ay * by)
+        watch(self.x * other.x + self.y * other.y)
     }
 
     // The vector's length.
-    pub fn norm(self) -> ScalarAnswer
-        ensures { listed_scalar result ≡ norm_of self }
+    #[tactic(auto, unfolding(crate::specs::Points::norm_of))]
+    pub fn norm(self) -> Result<f64, Refusal>
+        ensures { result ≡ norm_of self }
     {
-        match self.dot(self) {
-            ScalarAnswer::Value(d) => errors::watch(root::square_root(d)),
-            ScalarAnswer::Refused(r) => ScalarAnswer::Refused(r),
-        }
+        watch(root::square_root(self.dot(self)?))
     }
 
     // The vector divided by its length: 11 where that is zero.
-    pub fn normalize(self) -> VectorAnswer
-        ensures { listed_vector result ≡ normalized self }
+    #[tactic(auto, unfolding(crate::specs::Points::normalized))]
+    pub fn normalize(self) -> Result<Vector2, Refusal>
+        ensures { result ≡ normalized self }
     {
-        let x = self.x;
-        let y = self.y;
-        match self.norm() {
-            ScalarAnswer::Value(l) => {
-                if l == 0.0 {
-                    return VectorAnswer::Refused(Refusal::ZeroLength);
-                }
-                watch_vector(Vector2 { x: x / l, y: y / l })
-            }
-            ScalarAnswer::Refused(r) => VectorAnswer::Refused(r),
+        let length = self.norm()?;
+        if length == 0.0 {
+            return Err(Refusal::ZeroLength);
         }
+        watch(self / length)
     }
 
     // The vector after a quarter turn.
     pub fn rot90(self, dir: AngleDir) -> Vector2
         ensures { result ≡ rotated dir self }
     {
-        let x = self.x;
-        let y = self.y;
         match dir {
-            AngleDir::Cw => Vector2 { x: y, y: -x },
-            AngleDir::Ccw => Vector2 { x: -y, y: x },
+            AngleDir::Cw => Vector2 {
+                x: self.y,
+                y: -self.x,
+            },
+            AngleDir::Ccw => Vector2 {
+                x: -self.y,
+                y: self.x,
+            },
         }
     }
 }

@@ -3,11 +3,11 @@ use mathlib.Core.Path.{◌≡◌, refl, ◌∙◌}
 use mathlib.Core.Bool.{Bool, true, false, ◌&&◌, ◌||◌, cond}
 use mathlib.Core.List.{List, [], ◌∷◌}
 use mathlib.Core.Logic.{◌⊎◌, inl, inr, ⊎_elim}
-use mathlib.Core.Option.{Option, some}
+use Rattle.std.specs.Prelude.{Option, Some, Ok, Err}
 use Prim.Native.Nat.{ℕ}
 use lib.Ieee.{Float, lt}
 use lib.Ieee.Scale.{finite}
-use Rattle.errors.specs.Answer.{Answer, result, refusal, ◌>>=◌}
+use Rattle.errors.specs.Answer.{Answer, ◌>>=◌}
 use Rattle.errors.specs.declared.Refusal.TheVariants.{NotFinite}
 use Rattle.points.specs.Points.{difference, moved, minus}
 use Rattle.points.specs.declared.Point2.{Point2}
@@ -44,20 +44,20 @@ not_near closed last g h e = rw e (go (nearby g h))
 abbrev pub in_order : Hit → Hit → Span
 in_order g h = cond (lt h.t g.t) (span h g) (span g h)
 
-both_kept : (near : Hit → Hit → Bool) (g h : Hit) → near g h ≡ false → near h g ≡ false → span_of (dropped near (sorted (g ∷ (h ∷ [])))) ≡ some (in_order g h)
+both_kept : (near : Hit → Hit → Bool) (g h : Hit) → near g h ≡ false → near h g ≡ false → span_of (dropped near (sorted (g ∷ (h ∷ [])))) ≡ Some (in_order g h)
 unfolding sorted_into inserted dropped dropped_after span_of
 both_kept near g h p q = go (lt h.t g.t)
   where
-    go : (b : Bool) → span_of (dropped near (cond b (h ∷ (g ∷ [])) (g ∷ (h ∷ [])))) ≡ some (cond b (span h g) (span g h))
+    go : (b : Bool) → span_of (dropped near (cond b (h ∷ (g ∷ [])) (g ∷ (h ∷ [])))) ≡ Some (cond b (span h g) (span g h))
     go true = rw q
     go false = rw p
 
 -- ---- the sums of a crossing refuse by 12 alone
 
 abbrev OrNotFinite : {A : Type 0} → Answer A → Type 0
-OrNotFinite {A} a = ((x : A) × (a ≡ result x)) ⊎ (a ≡ refusal NotFinite)
+OrNotFinite {A} a = ((x : A) × (a ≡ Ok x)) ⊎ (a ≡ Err NotFinite)
 
-watched_or : {A : Type 0} (b : Bool) (x : A) → OrNotFinite (cond b (result x) (refusal NotFinite))
+watched_or : {A : Type 0} (b : Bool) (x : A) → OrNotFinite (cond b (Ok x) (Err NotFinite))
 watched_or true x = inl (x, refl)
 watched_or false x = inr refl
 
@@ -69,31 +69,31 @@ through_or : (a b : Point2) → OrNotFinite (line_through a b)
 unfolding line_through difference
 through_or a b = go (finite (minus b a).x && finite (minus b a).y)
   where
-    go : (c : Bool) → OrNotFinite (cond c (result (minus b a)) (refusal NotFinite) >>= λ v. result (line_of a v))
+    go : (c : Bool) → OrNotFinite (cond c (Ok (minus b a)) (Err NotFinite) >>= λ v. Ok (line_of a v))
     go true = inl (line_of a (minus b a), refl)
     go false = inr refl
 
 abbrev pub HasEdges : Span → Answer (Option Crossing) → Type 0
-HasEdges s a = ((x : Crossing) × (a ≡ result (some x)) × (x.edges ≡ span_edges s)) ⊎ (a ≡ refusal NotFinite)
+HasEdges s a = ((x : Crossing) × (a ≡ Ok (Some x)) × (x.edges ≡ span_edges s)) ⊎ (a ≡ Err NotFinite)
 
-crossed_or : (l : Line2) (s : Span) → HasEdges s (crossed l (some s))
+crossed_or : (l : Line2) (s : Span) → HasEdges s (crossed l (Some s))
 unfolding crossed spanned
 crossed_or l s = first (at_param l s.first.t) (at_or l s.first.t)
   where
-    last : (c : Answer Line2) → OrNotFinite c → HasEdges s ((c >>= λ k. result (record { line = k; edges = span_edges s })) >>= λ y. result (some y))
+    last : (c : Answer Line2) → OrNotFinite c → HasEdges s ((c >>= λ k. Ok (record { line = k; edges = span_edges s })) >>= λ y. Ok (Some y))
     last c o = ⊎_elim (λ w. rw w.1 (inl (record { line = w.0; edges = span_edges s }, refl, refl))) (λ e. rw e (inr refl)) o
 
-    second : (p : Point2) (b : Answer Point2) → OrNotFinite b → HasEdges s ((b >>= λ q. line_through p q >>= λ k. result (record { line = k; edges = span_edges s })) >>= λ y. result (some y))
+    second : (p : Point2) (b : Answer Point2) → OrNotFinite b → HasEdges s ((b >>= λ q. line_through p q >>= λ k. Ok (record { line = k; edges = span_edges s })) >>= λ y. Ok (Some y))
     second p b o = ⊎_elim (λ w. rw w.1 (last (line_through p w.0) (through_or p w.0))) (λ e. rw e (inr refl)) o
 
-    first : (a : Answer Point2) → OrNotFinite a → HasEdges s ((a >>= λ p. at_param l s.second.t >>= λ q. line_through p q >>= λ k. result (record { line = k; edges = span_edges s })) >>= λ y. result (some y))
+    first : (a : Answer Point2) → OrNotFinite a → HasEdges s ((a >>= λ p. at_param l s.second.t >>= λ q. line_through p q >>= λ k. Ok (record { line = k; edges = span_edges s })) >>= λ y. Ok (Some y))
     first a o = ⊎_elim (λ w. rw w.1 (second w.0 (at_param l s.second.t) (at_or l s.second.t))) (λ e. rw e (inr refl)) o
 
 -- ---- the promise
 
-module _ (ns : List Float) (tol : Float) (l : Line2) (g h : Hit) (two : hits_of ns l ≡ result (g ∷ (h ∷ []))) (apart : neighbours (is_closed ns tol) (last_edge ns) g.edge h.edge ≡ false) where
+module _ (ns : List Float) (tol : Float) (l : Line2) (g h : Hit) (two : hits_of ns l ≡ Ok (g ∷ (h ∷ []))) (apart : neighbours (is_closed ns tol) (last_edge ns) g.edge h.edge ≡ false) where
   -- the joined crossing is theirs
-  pub joined_of_two : joined_crossing_of ns tol l ≡ crossed l (some (in_order g h))
+  pub joined_of_two : joined_crossing_of ns tol l ≡ crossed l (Some (in_order g h))
   unfolding crossing_with
   joined_of_two =
       let there = not_near (is_closed ns tol) (last_edge ns) g h apart in

@@ -2,7 +2,7 @@
 use mathlib.Core.Path.{◌≡◌, refl, sym, ◌∙◌}
 use mathlib.Core.Bool.{Bool, true, false, cond}
 use mathlib.Core.List.{List, [], ◌∷◌}
-use mathlib.Core.Option.{some}
+use Rattle.std.specs.Prelude.{Some}
 use Prim.Native.Nat.{ℕ, zero, suc, ◌+◌, ◌*◌, ◌<◌}
 use native.Mathlib.Nat.{lt_trans, zero-mul, zero-lt-suc, mul_right_comm, mul-pos, mul-lt-mul_of_pos_right, lt_of_mul-lt-mul_right}
 use native.Mathlib.Omega.{arith}
@@ -123,17 +123,17 @@ not_below_dropped near k g (h ∷ hs) n = go (not_below_dropped near k g hs n.1)
     go i j true = i
     go i j false = (n.0, j)
 
-first_of_two : (h : Hit) (ds : List Hit) (s : Span) → NotBelow h ds → span_of (h ∷ ds) ≡ some s → lt s.second.t s.first.t ≡ false
+first_of_two : (h : Hit) (ds : List Hit) (s : Span) → NotBelow h ds → span_of (h ∷ ds) ≡ Some s → lt s.second.t s.first.t ≡ false
 unfolding span_of
 first_of_two h [] s n e = let w : ◌≡◌ {A = ℕ} 0 1 = cc in absurd (omega arith)
 first_of_two h (k ∷ []) s n e = let w : s ≡ span h k = cc in rw w n.0
 first_of_two h (k ∷ (l ∷ ds)) s n e = let w : ◌≡◌ {A = ℕ} 0 1 = cc in absurd (omega arith)
 
 -- the two that remain, whichever hits count as near: the second is not below the first
-pub span-in_order : (near : Hit → Hit → Bool) (hs : List Hit) (s : Span) → span_of (dropped near (sorted hs)) ≡ some s → lt s.second.t s.first.t ≡ false
+pub span-in_order : (near : Hit → Hit → Bool) (hs : List Hit) (s : Span) → span_of (dropped near (sorted hs)) ≡ Some s → lt s.second.t s.first.t ≡ false
 unfolding dropped span_of
 span-in_order near hs s e = go (sorted hs) (ordered_sorted [] hs tt) e
   where
-    go : (gs : List Hit) → Ordered gs → span_of (dropped near gs) ≡ some s → lt s.second.t s.first.t ≡ false
+    go : (gs : List Hit) → Ordered gs → span_of (dropped near gs) ≡ Some s → lt s.second.t s.first.t ≡ false
     go [] o f = let w : ◌≡◌ {A = ℕ} 0 1 = cc in absurd (omega arith)
     go (g ∷ gs) o f = first_of_two g (dropped_after near g gs) s (not_below_dropped near g g gs o.0) f

@@ -3,11 +3,11 @@
 use mathlib.Core.Path.{◌≡◌, refl, ap}
 use mathlib.Core.Bool.{Bool, ◌&&◌}
 use mathlib.Core.List.{List, [], ◌∷◌}
-use mathlib.Core.Option.{Option}
+use Rattle.std.specs.Prelude.{Option, Ok, Err}
 use borrow.Author.Tests.{ne_eqb}
 use lib.Dec.{eqb}
 use lib.Ieee.{Float}
-use Rattle.errors.specs.Answer.{Answer, result, refusal, ◌>>=◌}
+use Rattle.errors.specs.Answer.{Answer, ◌>>=◌}
 use Rattle.line2.specs.declared.Line2.{Line2}
 use Rattle.queries.specs.Hits.{section_edges, hits_from, hits_of, sorted, nearby, dropped_after, dropped}
 use Rattle.queries.specs.Crossing.{span_of, crossed, crossing_with, crossing_of}
@@ -34,7 +34,7 @@ none_dropped [] d = refl
 none_dropped (h ∷ hs) d = ap (λ (x : List Hit). h ∷ x) (none_dropped_after h hs d.0 d.1)
 
 -- "this pass never drops anything"
-pub sorted_hits_stay : (ns : List Float) (l : Line2) (hs : List Hit) → hits_of ns l ≡ result hs → dropped nearby_on_edge (sorted hs) ≡ sorted hs
+pub sorted_hits_stay : (ns : List Float) (l : Line2) (hs : List Hit) → hits_of ns l ≡ Ok hs → dropped nearby_on_edge (sorted hs) ≡ sorted hs
 sorted_hits_stay ns l hs e = none_dropped (sorted hs) (distinct_sorted 0 [] hs tt tt (hits_rise l 0 (section_edges ns) hs e))
 
 -- so the crossing is the same without it
@@ -42,6 +42,6 @@ pub pass_drops_nothing : (ns : List Float) (l : Line2) → crossing_with_pass ns
 unfolding crossing_with crossing_of
 pass_drops_nothing ns l = go (hits_from l 0 (section_edges ns)) (sorted_hits_stay ns l)
   where
-    go : (a : Answer (List Hit)) → ((hs : List Hit) → a ≡ result hs → dropped nearby_on_edge (sorted hs) ≡ sorted hs) → (a >>= λ hs. crossed l (span_of (dropped nearby_on_edge (sorted hs)))) ≡ (a >>= λ hs. crossed l (span_of (sorted hs)))
-    go (refusal r) f = refl
-    go (result hs) f = rw (f hs refl)
+    go : (a : Answer (List Hit)) → ((hs : List Hit) → a ≡ Ok hs → dropped nearby_on_edge (sorted hs) ≡ sorted hs) → (a >>= λ hs. crossed l (span_of (dropped nearby_on_edge (sorted hs)))) ≡ (a >>= λ hs. crossed l (span_of (sorted hs)))
+    go (Err r) f = refl
+    go (Ok hs) f = rw (f hs refl)

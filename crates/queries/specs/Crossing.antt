@@ -1,7 +1,6 @@
 -- `crossing_line`: "answers exactly if two remain"; and the joined crossing. Assumes nothing.
-use Rattle.std.specs.Prelude.{Bool, List, [], ◌∷◌, Float}
-use Rattle.std.proofs.Math.Option.{Option, some, none}
-use Rattle.errors.specs.Answer.{Answer, result, refusal, ◌>>=◌}
+use Rattle.std.specs.Prelude.{Bool, List, [], ◌∷◌, Float, Option, Some, None, Ok, Err}
+use Rattle.errors.specs.Answer.{Answer, ◌>>=◌}
 use Rattle.line2.specs.Lines.{line_through, at_param}
 use Rattle.curve2.specs.Section.{is_closed}
 use Rattle.line2.specs.declared.Line2.{Line2}
@@ -9,8 +8,6 @@ use Rattle.queries.specs.Hits.{last_edge, hits_of, sorted, dropped, nearby_neigh
 use Rattle.queries.specs.declared.Hit.{Hit}
 use Rattle.queries.specs.declared.HitEdges.{HitEdges}
 use Rattle.queries.specs.declared.Crossing.{Crossing}
-use Rattle.queries.specs.declared.CrossingAnswer.{CrossingAnswer}
-use Rattle.queries.specs.declared.CrossingAsked.{CrossingAsked}
 use Rattle.errors.specs.declared.Refusal.TheVariants.{NoCrossing}
 
 -- the two hits
@@ -27,19 +24,19 @@ span_edges s = record { first = s.first.edge; second = s.second.edge }
 
 -- exactly two
 unfoldable pub span_of : List Hit → Option Span
-span_of [] = none
-span_of (g ∷ []) = none
-span_of (g ∷ (h ∷ [])) = some (span g h)
-span_of (g ∷ (h ∷ (k ∷ hs))) = none
+span_of [] = None
+span_of (g ∷ []) = None
+span_of (g ∷ (h ∷ [])) = Some (span g h)
+span_of (g ∷ (h ∷ (k ∷ hs))) = None
 
 -- the line from the first hit to the second
 unfoldable pub spanned : Line2 → Span → Answer Crossing
-spanned l s = at_param l s.first.t >>= λ a. at_param l s.second.t >>= λ b. line_through a b >>= λ k. result (record { line = k; edges = span_edges s })
+spanned l s = at_param l s.first.t >>= λ a. at_param l s.second.t >>= λ b. line_through a b >>= λ k. Ok (record { line = k; edges = span_edges s })
 
 unfoldable pub crossed : Line2 → Option Span → Answer (Option Crossing)
 unfolding spanned
-crossed l none = result none
-crossed l (some s) = spanned l s >>= λ c. result (some c)
+crossed l None = Ok None
+crossed l (Some s) = spanned l s >>= λ c. Ok (Some c)
 
 -- collect, sort, count. 02 (l): a pass over near hits on one edge would drop none (`pass_drops_nothing`, queries/proofs/SameEdge)
 unfoldable pub crossing_of : List Float → Line2 → Answer (Option Crossing)
@@ -55,20 +52,9 @@ joined_crossing_of ns tol l = crossing_with (nearby_neighbour (is_closed ns tol)
 
 -- 8: "a line asked for directly, or a start line, has not exactly two hits"
 abbrev pub or_no_crossing : Option Crossing → Answer Crossing
-or_no_crossing none = refusal NoCrossing
-or_no_crossing (some c) = result c
+or_no_crossing None = Err NoCrossing
+or_no_crossing (Some c) = Ok c
 
 -- the crossing of a line that must have one
 abbrev pub crossing_on : List Float → Line2 → Answer Crossing
 crossing_on ns l = crossing_of ns l >>= or_no_crossing
-
--- ---- what the answers list
-
-abbrev pub listed_crossing : CrossingAnswer → Answer (Option Crossing)
-listed_crossing (CrossingAnswer.Value c) = result (some c)
-listed_crossing CrossingAnswer.Missed = result none
-listed_crossing (CrossingAnswer.Refused r) = refusal r
-
-abbrev pub listed_crossing_asked : CrossingAsked → Answer Crossing
-listed_crossing_asked (CrossingAsked.Value c) = result c
-listed_crossing_asked (CrossingAsked.Refused r) = refusal r

@@ -1,9 +1,8 @@
 -- Leaf rule "Hits": "every edge is tried, in edge order"; and the steps on them: "Hits are sorted, ties in edge order". Assumes nothing.
-use Rattle.std.specs.Prelude.{Bool, ◌&&◌, ◌||◌, cond, List, [], ◌∷◌, ℕ, suc, ◌-◌, eqb, length, Float}
-use Rattle.std.proofs.Math.Option.{Option, some, none}
+use Rattle.std.specs.Prelude.{Bool, ◌&&◌, ◌||◌, cond, List, [], ◌∷◌, ℕ, suc, ◌-◌, eqb, length, Float, Option, Some, None, Ok}
 use Rattle.std.specs.Float.Ieee.{lt, le, of_bits}
 use Rattle.std.specs.Float.{binary64}
-use Rattle.errors.specs.Answer.{Answer, result, ◌>>=◌}
+use Rattle.errors.specs.Answer.{Answer, ◌>>=◌}
 use Rattle.points.specs.Numbers.{◌-f◌, f0, f1, is_within}
 use Rattle.points.specs.Points.{minus}
 use Rattle.points.specs.declared.Point2.{Point2}
@@ -40,20 +39,20 @@ hit t i = record { t = t; edge = i }
 
 -- "Both ends of an edge count."
 abbrev pub on_edge : Option LineParams → Option Float
-on_edge none = none
-on_edge (some p) = cond (le f0 p.s && le p.s f1) (some p.t) none
+on_edge None = None
+on_edge (Some p) = cond (le f0 p.s && le p.s f1) (Some p.t) None
 
 unfoldable pub edge_hit : Line2 → Edge → Answer (Option Float)
-edge_hit l e = intersection_param l (line_of e.a (minus e.b e.a)) >>= λ found. result (on_edge found)
+edge_hit l e = intersection_param l (line_of e.a (minus e.b e.a)) >>= λ found. Ok (on_edge found)
 
 -- the hit of edge i, if it has one, and those after it
 abbrev pub joined_to : ℕ → Option Float → List Hit → List Hit
-joined_to i none hs = hs
-joined_to i (some t) hs = hit t i ∷ hs
+joined_to i None hs = hs
+joined_to i (Some t) hs = hit t i ∷ hs
 
 unfoldable pub hits_from : Line2 → ℕ → List Edge → Answer (List Hit)
-hits_from l i [] = result []
-hits_from l i (e ∷ es) = edge_hit l e >>= λ t. hits_from l (suc i) es >>= λ hs. result (joined_to i t hs)
+hits_from l i [] = Ok []
+hits_from l i (e ∷ es) = edge_hit l e >>= λ t. hits_from l (suc i) es >>= λ hs. Ok (joined_to i t hs)
 
 abbrev pub hits_of : List Float → Line2 → Answer (List Hit)
 hits_of ns l = hits_from l 0 (section_edges ns)

@@ -4,19 +4,17 @@
 pub mod checked;
 
 ghost use Rattle.std.specs.Prelude.{◌≡◌};
-ghost use Rattle.queries.specs.Crossing.{listed_crossing_asked};
 ghost use Rattle.queries.specs.Code.{asked_of};
 
 use errors::Refusal;
 use line2::Line2;
 use points::segment2::EdgePoint;
 
-mod closest;
 mod hits;
 mod joined;
 
 // A hit of a line: its fraction along the line, and its edge.
-#[derive(Clone, Copy)]
+#[derive(Clone, Copy, Default)]
 pub struct Hit {
     pub t: f64,
     pub edge: usize,
@@ -36,30 +34,11 @@ pub struct Crossing {
     pub edges: HitEdges,
 }
 
-// A crossing, none where there aren't exactly two hits, or a refusal.
-#[derive(Clone, Copy)]
-pub enum CrossingAnswer {
-    Value(Crossing),
-    Missed,
-    Refused(Refusal),
-}
-
-// The crossing of a line asked for directly, or why there is none.
-#[derive(Clone, Copy)]
-pub enum CrossingAsked {
-    Value(Crossing),
-    Refused(Refusal),
-}
-
 // A line asked for directly, or a start line, must cross: 8 where it has not exactly two hits.
-pub fn asked(found: CrossingAnswer) -> CrossingAsked
-    ensures { listed_crossing_asked result ≡ asked_of found }
+pub fn asked(found: Result<Option<Crossing>, Refusal>) -> Result<Crossing, Refusal>
+    ensures { result ≡ asked_of found }
 {
-    match found {
-        CrossingAnswer::Value(c) => CrossingAsked::Value(c),
-        CrossingAnswer::Missed => CrossingAsked::Refused(Refusal::NoCrossing),
-        CrossingAnswer::Refused(r) => CrossingAsked::Refused(r),
-    }
+    found?.ok_or(Refusal::NoCrossing)
 }
 
 // The nearest point of a section: its edge, and the point on it.
@@ -67,11 +46,4 @@ pub fn asked(found: CrossingAnswer) -> CrossingAsked
 pub struct Nearest {
     pub index: usize,
     pub at: EdgePoint,
-}
-
-// The nearest point, or why there is none.
-#[derive(Clone, Copy)]
-pub enum NearestAnswer {
-    Value(Nearest),
-    Refused(Refusal),
 }

@@ -6,7 +6,7 @@ use native.Mathlib.Omega.{arith}
 use borrow.Author.Tests.{le-leb, lt-leb}
 use lib.ListN.{length}
 use lib.Ieee.{Float}
-use Rattle.errors.specs.Answer.{refusal}
+use Rattle.std.specs.Prelude.{Err}
 use Rattle.runs.specs.Run.{Move, ended, Final, under_limit}
 use Rattle.runs.proofs.RunLaws.{whole_ends, whole_goes}
 use Rattle.inscribed.specs.Store.{width, circles_of}
@@ -28,12 +28,12 @@ module _ (ns : List Float) (tol : Float) (slots limit : ℕ) (old : List Float) 
     empty_list [] e = refl
     empty_list (c ∷ cs) e = absurd (omega arith)
 
-    pub loop_no_slot : Left ns tol slots limit old target store 0 (b ∷ ws) u → slots ≡ 0 → report (ended (refusal StoreFull)) 0 u store ≡ reported old target
+    pub loop_no_slot : Left ns tol slots limit old target store 0 (b ∷ ws) u → slots ≡ 0 → report (ended (Err StoreFull)) 0 u store ≡ reported old target
     unfolding refine_step refine_move
     loop_no_slot l z =
         let e = empty_list l.cs l.long in
-        reported_as ns tol slots limit old target store 0 [] (ended (refusal StoreFull)) (refining [] (b ∷ ws)) u refl (rw e at l.holds) refl
-        (sym (whole_ends step (measure slots) (refine_falls ns tol slots) (under_limit limit) (refining [] (b ∷ ws)) u (refusal StoreFull) (rw (le-leb slots 0 (omega arith)))) ∙ (rw e at l.left))
+        reported_as ns tol slots limit old target store 0 [] (ended (Err StoreFull)) (refining [] (b ∷ ws)) u refl (rw e at l.holds) refl
+        (sym (whole_ends step (measure slots) (refine_falls ns tol slots) (under_limit limit) (refining [] (b ∷ ws)) u (Err StoreFull) (rw (le-leb slots 0 (omega arith)))) ∙ (rw e at l.left))
 
     pub loop_first : Left ns tol slots limit old target store 0 (b ∷ ws) u → (slots ≡ 0 → ⊥) → Left ns tol slots limit old target (with_circle store 0 b) 1 ws u
     unfolding refine_step refine_move
@@ -51,7 +51,7 @@ module _ (ns : List Float) (tol : Float) (slots limit : ℕ) (old : List Float) 
   begun : Left ns tol slots limit old (refine_run ns tol slots (under_limit limit) (circles_of old 0) (b ∷ []) u) old 0 (b ∷ []) u
   begun = loop_start ns tol slots limit old 0 (b ∷ []) u (omega arith) room
 
-  pub empty_refused : slots ≡ 0 → report (ended (refusal StoreFull)) 0 u old ≡ reported old (refine_run ns tol slots (under_limit limit) (circles_of old 0) (b ∷ []) u)
+  pub empty_refused : slots ≡ 0 → report (ended (Err StoreFull)) 0 u old ≡ reported old (refine_run ns tol slots (under_limit limit) (circles_of old 0) (b ∷ []) u)
   empty_refused z = loop_no_slot ns tol slots limit old _ old b [] u begun z
 
   pub empty_accepted : (slots ≡ 0 → ⊥) → report (ended finished) 1 u (with_circle old 0 b) ≡ reported old (refine_run ns tol slots (under_limit limit) (circles_of old 0) (b ∷ []) u)

@@ -8,7 +8,8 @@ use native.Mathlib.Omega.{arith}
 use lib.ListN.{length, take, drop, length-append, length-drop, take-append-drop}
 use lib.Seq.{take_at, drop_at, drop-append-le}
 use lib.Ieee.{Float}
-use Rattle.errors.specs.Answer.{Answer, result, refusal}
+use Rattle.std.specs.Prelude.{Ok, Err}
+use Rattle.errors.specs.Answer.{Answer}
 use Rattle.errors.proofs.Laws.{not_0, not_14}
 use Rattle.runs.specs.Run.{Move, goes, pays, Ending, ended, spent, unfinished, Final, under_limit, never, whole}
 use Rattle.runs.proofs.RunLaws.{Falls}
@@ -33,14 +34,14 @@ short_last old count = omega (arith, length-drop (count - 1) (circles_of old cou
 
 module _ {A : Type 0} where
   pub spent-number : (e : Ending (Answer A)) → ending_number e ≡ 14 → (e ≡ unfinished → ⊥) → e ≡ spent
-  spent-number (ended (result a)) p u = absurd (omega (arith, p))
-  spent-number (ended (refusal r)) p u = absurd (not_14 r p)
+  spent-number (ended (Ok a)) p u = absurd (omega (arith, p))
+  spent-number (ended (Err r)) p u = absurd (not_14 r p)
   spent-number spent p u = refl
   spent-number unfinished p u = absurd (u refl)
 
-  pub result-number : (e : Ending (Answer A)) → ending_number e ≡ 0 → (a : A) × (e ≡ ended (result a))
-  result-number (ended (result a)) p = (a, refl)
-  result-number (ended (refusal r)) p = absurd (not_0 r p)
+  pub result-number : (e : Ending (Answer A)) → ending_number e ≡ 0 → (a : A) × (e ≡ ended (Ok a))
+  result-number (ended (Ok a)) p = (a, refl)
+  result-number (ended (Err r)) p = absurd (not_0 r p)
   result-number spent p = absurd (omega (arith, p))
   result-number unfinished p = absurd (omega (arith, p))
 

@@ -3,7 +3,7 @@ use mathlib.Core.Path.{◌≡◌, refl, ap, ◌∙◌}
 use mathlib.Core.Bool.{Bool, true, false, cond}
 use mathlib.Core.List.{List, [], ◌∷◌, ◌++◌, append_assoc}
 use mathlib.Core.Logic.{◌⊎◌, inl, inr, ⊎_elim}
-use mathlib.Core.Option.{Option, some, none}
+use Rattle.std.specs.Prelude.{Option, Some, None, Ok, Err}
 use Prim.Native.Nat.{ℕ, zero, suc, ◌-◌, ◌≤◌, ◌<◌}
 use native.Mathlib.Omega.{arith}
 use borrow.Author.Tests.{leb-false}
@@ -11,7 +11,7 @@ use lib.Dec.{leb}
 use lib.ListN.{length, drop, length-append}
 use lib.Seq.{drop-append-le}
 use lib.Ieee.{Float}
-use Rattle.errors.specs.Answer.{Answer, result, refusal}
+use Rattle.errors.specs.Answer.{Answer}
 use Rattle.errors.specs.Lists.{last_of}
 use Rattle.runs.specs.Run.{goes, pays}
 use Rattle.runs.proofs.LimitLaws.{Grows}
@@ -39,15 +39,15 @@ part_chain s t v p q = (p.0 ++ q.0, q.1 ∙ rw p.1 (append_assoc (circles_in s) 
 
 pub after_part : (slots : ℕ) (cs : List Inscribed) (b : Inscribed) (ws : List Inscribed) (r : Answer (Option Inscribed)) → Part (refining cs (b ∷ ws)) (after_trial slots cs b ws r)
 unfolding after_trial with_room
-after_part slots cs b ws (refusal n) = ([], no_more cs)
-after_part slots cs b ws (result (some d)) = go (leb 64 (suc (length ws)))
+after_part slots cs b ws (Err n) = ([], no_more cs)
+after_part slots cs b ws (Ok (Some d)) = go (leb 64 (suc (length ws)))
   where
-    go : (x : Bool) → Part (refining cs (b ∷ ws)) (after_room cs b ws (cond x (refusal StackFull) (result (some d))))
+    go : (x : Bool) → Part (refining cs (b ∷ ws)) (after_room cs b ws (cond x (Err StackFull) (Ok (Some d))))
     go true = ([], no_more cs)
     go false = ([], no_more cs)
-after_part slots cs b ws (result none) = go (leb slots (length cs))
+after_part slots cs b ws (Ok None) = go (leb slots (length cs))
   where
-    go : (x : Bool) → Part (refining cs (b ∷ ws)) (after_room cs b ws (cond x (refusal StoreFull) (result none)))
+    go : (x : Bool) → Part (refining cs (b ∷ ws)) (after_room cs b ws (cond x (Err StoreFull) (Ok None)))
     go true = ([], no_more cs)
     go false = (b ∷ [], refl)
 
@@ -77,7 +77,7 @@ refine_grows ns tol slots = record { same = part_same; chain = part_chain; goes_
 
 -- ---- no pair would be refined again
 
-settled_more : (ns : List Float) (tol : Float) (a : Inscribed) (cs : List Inscribed) (b : Inscribed) → Settled ns tol (a ∷ cs) → trial ns tol (last_of a cs) b ≡ result none → Settled ns tol (a ∷ (cs ++ (b ∷ [])))
+settled_more : (ns : List Float) (tol : Float) (a : Inscribed) (cs : List Inscribed) (b : Inscribed) → Settled ns tol (a ∷ cs) → trial ns tol (last_of a cs) b ≡ Ok None → Settled ns tol (a ∷ (cs ++ (b ∷ [])))
 unfolding last_of
 settled_more ns tol a [] b s e = (e, tt)
 settled_more ns tol a (d ∷ cs) b s e = (s.0, settled_more ns tol d cs b s.1 e)
@@ -89,7 +89,7 @@ last_drop c [] (suc j) h = absurd (omega arith)
 last_drop c (d ∷ cs) (suc j) h = last_drop d cs j (omega arith)
 
 -- from the circle at j on, which is in the list
-settled-accepted : (ns : List Float) (tol : Float) (j : ℕ) (c : Inscribed) (cs : List Inscribed) (b : Inscribed) → j ≤ length cs → Settled ns tol (drop j (c ∷ cs)) → trial ns tol (last_of c cs) b ≡ result none
+settled-accepted : (ns : List Float) (tol : Float) (j : ℕ) (c : Inscribed) (cs : List Inscribed) (b : Inscribed) → j ≤ length cs → Settled ns tol (drop j (c ∷ cs)) → trial ns tol (last_of c cs) b ≡ Ok None
     → Settled ns tol (drop j ((c ∷ cs) ++ (b ∷ [])))
 settled-accepted ns tol j c cs b h s e =
     let l = last_drop c cs j h in
@@ -105,15 +105,15 @@ module _ (ns : List Float) (tol : Float) (k slots : ℕ) where
   after_sound : (c : Inscribed) (cs : List Inscribed) (b : Inscribed) (ws : List Inscribed) (r : Answer (Option Inscribed)) → trial ns tol (last_of c cs) b ≡ r → Sound ns tol k (refining (c ∷ cs) (b ∷ ws))
       → Sound ns tol k (after_trial slots (c ∷ cs) b ws r)
   unfolding after_trial with_room
-  after_sound c cs b ws (refusal n) e h = record { held = h.held; settled = h.settled }
-  after_sound c cs b ws (result (some d)) e h = go (leb 64 (suc (length ws)))
+  after_sound c cs b ws (Err n) e h = record { held = h.held; settled = h.settled }
+  after_sound c cs b ws (Ok (Some d)) e h = go (leb 64 (suc (length ws)))
     where
-      go : (x : Bool) → Sound ns tol k (after_room (c ∷ cs) b ws (cond x (refusal StackFull) (result (some d))))
+      go : (x : Bool) → Sound ns tol k (after_room (c ∷ cs) b ws (cond x (Err StackFull) (Ok (Some d))))
       go true = record { held = h.held; settled = h.settled }
       go false = record { held = h.held; settled = h.settled }
-  after_sound c cs b ws (result none) e h = go (leb slots (suc (length cs)))
+  after_sound c cs b ws (Ok None) e h = go (leb slots (suc (length cs)))
     where
-      go : (x : Bool) → Sound ns tol k (after_room (c ∷ cs) b ws (cond x (refusal StoreFull) (result none)))
+      go : (x : Bool) → Sound ns tol k (after_room (c ∷ cs) b ws (cond x (Err StoreFull) (Ok None)))
       go true = record { held = h.held; settled = h.settled }
       go false = record { held = omega (arith, h.held, length-append (c ∷ cs) (b ∷ [])); settled = settled-accepted ns tol (k - 1) c cs b (omega (arith, h.held)) h.settled e }
 
@@ -173,16 +173,16 @@ module _ (ns : List Float) (tol : Float) (k slots : ℕ) (o : Inscribed) where
   after_offered : (c : Inscribed) (cs : List Inscribed) (b : Inscribed) (ws : List Inscribed) (r : Answer (Option Inscribed)) → k ≤ suc (length cs) → Offered k o (refining (c ∷ cs) (b ∷ ws))
       → Offered k o (after_trial slots (c ∷ cs) b ws r)
   unfolding after_trial with_room
-  after_offered c cs b ws (refusal n) h e = tt
-  after_offered c cs b ws (result (some d)) h e = go (leb 64 (suc (length ws))) e
+  after_offered c cs b ws (Err n) h e = tt
+  after_offered c cs b ws (Ok (Some d)) h e = go (leb 64 (suc (length ws))) e
     where
-      go : (x : Bool) → Offered k o (refining (c ∷ cs) (b ∷ ws)) → Offered k o (after_room (c ∷ cs) b ws (cond x (refusal StackFull) (result (some d))))
+      go : (x : Bool) → Offered k o (refining (c ∷ cs) (b ∷ ws)) → Offered k o (after_room (c ∷ cs) b ws (cond x (Err StackFull) (Ok (Some d))))
       go true q = tt
       go false (inl q) = inl (d ∷ q.0, ap (λ (x : List Inscribed). d ∷ x) q.1)
       go false (inr q) = nothing_ends b o ws [] q.0
-  after_offered c cs b ws (result none) h e = go (leb slots (suc (length cs)))
+  after_offered c cs b ws (Ok None) h e = go (leb slots (suc (length cs)))
     where
-      go : (x : Bool) → Offered k o (after_room (c ∷ cs) b ws (cond x (refusal StoreFull) (result none)))
+      go : (x : Bool) → Offered k o (after_room (c ∷ cs) b ws (cond x (Err StoreFull) (Ok None)))
       go true = tt
       go false = accepted_offered (c ∷ cs) b ws h e
 
@@ -221,15 +221,15 @@ module _ (ns : List Float) (tol : Float) (slots : ℕ) where
 
   after_fits : (cs : List Inscribed) (b : Inscribed) (ws : List Inscribed) (r : Answer (Option Inscribed)) → length cs ≤ slots → Fits (after_trial slots cs b ws r)
   unfolding after_trial with_room
-  after_fits cs b ws (refusal n) h = h
-  after_fits cs b ws (result (some d)) h = go (leb 64 (suc (length ws)))
+  after_fits cs b ws (Err n) h = h
+  after_fits cs b ws (Ok (Some d)) h = go (leb 64 (suc (length ws)))
     where
-      go : (x : Bool) → Fits (after_room cs b ws (cond x (refusal StackFull) (result (some d))))
+      go : (x : Bool) → Fits (after_room cs b ws (cond x (Err StackFull) (Ok (Some d))))
       go true = h
       go false = h
-  after_fits cs b ws (result none) h = go (leb slots (length cs)) (leb-false slots (length cs))
+  after_fits cs b ws (Ok None) h = go (leb slots (length cs)) (leb-false slots (length cs))
     where
-      go : (x : Bool) → (x ≡ false → length cs < slots) → Fits (after_room cs b ws (cond x (refusal StoreFull) (result none)))
+      go : (x : Bool) → (x ≡ false → length cs < slots) → Fits (after_room cs b ws (cond x (Err StoreFull) (Ok None)))
       go true k = h
       go false k = omega (arith, k refl, length-append cs (b ∷ []))
 

@@ -2,14 +2,14 @@
 use mathlib.Core.Path.{◌≡◌, refl}
 use mathlib.Core.Bool.{Bool, true, false, cond}
 use mathlib.Core.List.{List, [], ◌∷◌}
-use mathlib.Core.Option.{Option, some, none}
+use Rattle.std.specs.Prelude.{Option, Some, None, Ok, Err}
 use Prim.Native.Nat.{ℕ, suc, ◌≤◌, ◌<◌}
 use native.Mathlib.Omega.{arith}
 use borrow.Author.Tests.{leb-false}
 use lib.Dec.{leb}
 use lib.ListN.{length, length-append}
 use lib.Ieee.{Float}
-use Rattle.errors.specs.Answer.{Answer, result, refusal}
+use Rattle.errors.specs.Answer.{Answer}
 use Rattle.errors.specs.Lists.{last_of}
 use Rattle.runs.specs.Run.{Move, ends, goes, pays}
 use Rattle.runs.proofs.RunLaws.{Falls}
@@ -39,7 +39,7 @@ module _ (ns : List Float) (tol : Float) (slots : ℕ) (b : Inscribed) (ws : Lis
   unfolding refine_move
   move_goes [] t p = go (leb slots 0) (leb-false slots 0) p
     where
-      go : (x : Bool) → (x ≡ false → 0 < slots) → cond {A = Move State End} x (ends (refusal StoreFull)) (goes (refining (b ∷ []) ws)) ≡ goes t → (◌≡◌ {A = List Inscribed} [] []) × (0 < slots) × (t ≡ refining (b ∷ []) ws)
+      go : (x : Bool) → (x ≡ false → 0 < slots) → cond {A = Move State End} x (ends (Err StoreFull)) (goes (refining (b ∷ []) ws)) ≡ goes t → (◌≡◌ {A = List Inscribed} [] []) × (0 < slots) × (t ≡ refining (b ∷ []) ws)
       go true h q = no_goes q
       go false h q = (refl, h refl, cc)
   move_goes (c ∷ cs) t p = pays_no_goes p
@@ -50,7 +50,7 @@ module _ (ns : List Float) (tol : Float) (slots : ℕ) (b : Inscribed) (ws : Lis
   unfolding refine_move
   move_pays [] t p = go (leb slots 0) p
     where
-      go : (x : Bool) → cond {A = Move State End} x (ends (refusal StoreFull)) (goes (refining (b ∷ []) ws)) ≡ pays t
+      go : (x : Bool) → cond {A = Move State End} x (ends (Err StoreFull)) (goes (refining (b ∷ []) ws)) ≡ pays t
           → (c : Inscribed) × (ds : List Inscribed) × (◌≡◌ {A = List Inscribed} [] (c ∷ ds)) × (t ≡ after_trial slots [] b ws (trial ns tol (last_of c ds) b))
       go true q = no_pays q
       go false q = goes_no_pays q
@@ -64,15 +64,15 @@ left_most (b ∷ ws) = omega arith
 
 pub after_falls : (slots : ℕ) (cs : List Inscribed) (b : Inscribed) (ws : List Inscribed) (r : Answer (Option Inscribed)) → measure slots (after_trial slots cs b ws r) < measure slots (refining cs (b ∷ ws))
 unfolding after_trial with_room measure
-after_falls slots cs b ws (refusal n) = omega arith
-after_falls slots cs b ws (result (some d)) = go (leb 64 (suc (length ws))) (leb-false 64 (suc (length ws)))
+after_falls slots cs b ws (Err n) = omega arith
+after_falls slots cs b ws (Ok (Some d)) = go (leb 64 (suc (length ws))) (leb-false 64 (suc (length ws)))
   where
-    go : (x : Bool) → (x ≡ false → suc (length ws) < 64) → measure slots (after_room cs b ws (cond x (refusal StackFull) (result (some d)))) < measure slots (refining cs (b ∷ ws))
+    go : (x : Bool) → (x ≡ false → suc (length ws) < 64) → measure slots (after_room cs b ws (cond x (Err StackFull) (Ok (Some d)))) < measure slots (refining cs (b ∷ ws))
     go true h = omega arith
     go false h = omega (arith, h refl)
-after_falls slots cs b ws (result none) = go (leb slots (length cs)) (leb-false slots (length cs))
+after_falls slots cs b ws (Ok None) = go (leb slots (length cs)) (leb-false slots (length cs))
   where
-    go : (x : Bool) → (x ≡ false → length cs < slots) → measure slots (after_room cs b ws (cond x (refusal StoreFull) (result none))) < measure slots (refining cs (b ∷ ws))
+    go : (x : Bool) → (x ≡ false → length cs < slots) → measure slots (after_room cs b ws (cond x (Err StoreFull) (Ok None))) < measure slots (refining cs (b ∷ ws))
     go true h = omega arith
     go false h = omega (arith, h refl, length-append cs (b ∷ []), left_most ws)
 

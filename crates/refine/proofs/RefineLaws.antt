@@ -1,17 +1,16 @@
 -- The loop of `refine_behind`: each way through its body keeps that what is left of the run gives the whole. Assumes nothing.
 use mathlib.Core.Path.{◌≡◌, refl, sym, ap, ◌∙◌}
 use mathlib.Core.Bool.{Bool, true, false, cond}
-use mathlib.Core.List.{List, [], ◌∷◌, ◌++◌}
-use mathlib.Core.Option.{Option, some, none}
-use Prim.Native.Nat.{ℕ, zero, suc, ◌+◌, ◌-◌, ◌*◌, ◌≤◌, ◌<◌}
+use mathlib.Core.List.{List, [], ◌∷◌, ◌++◌, reverse, reverse-append}
+use Rattle.std.specs.Prelude.{Option, Some, None, Ok, Err}
+use Prim.Native.Nat.{ℕ, suc, ◌+◌, ◌-◌, ◌*◌, ◌≤◌, ◌<◌}
 use native.Mathlib.Numerals.{add-one}
 use native.Mathlib.Omega.{arith}
 use borrow.Author.Tests.{le-leb, lt-leb, leb-false}
 use lib.Dec.{leb}
-use lib.ListN.{length, get_or, set, length-append}
-use lib.Seq.{get_or-set_same, get_or-set_other}
+use lib.ListN.{length, get_or, length-append}
 use lib.Ieee.{Float, nan}
-use Rattle.errors.specs.Answer.{Answer, result, refusal}
+use Rattle.errors.specs.Answer.{Answer}
 use Rattle.errors.specs.Lists.{last_of}
 use Rattle.runs.specs.Run.{Move, pays, Ending, ended, spent, Final, final_of, under_limit, whole}
 use Rattle.runs.proofs.RunLaws.{whole_ends, whole_pays, whole_spent}
@@ -26,33 +25,8 @@ use Rattle.refine.specs.Report.{RunReport, reported}
 use Rattle.refine.proofs.MoveLaws.{refine_falls}
 use Rattle.errors.specs.declared.Refusal.TheVariants.{StackFull, StoreFull}
 
--- ---- the waiting circles in their array, the newest last
-
-abbrev pub no_circle : Inscribed
+abbrev no_circle : Inscribed
 no_circle = record { cx = nan; cy = nan; r = nan; p0x = nan; p0y = nan; p1x = nan; p1y = nan; l0 = nan; l1 = nan }
-
-unfoldable pub stack : List Inscribed → ℕ → List Inscribed
-stack ws zero = []
-stack ws (suc k) = get_or ws k no_circle ∷ stack ws k
-
-pub length_stack : (ws : List Inscribed) (w : ℕ) → length (stack ws w) ≡ w
-unfolding stack
-length_stack ws zero = refl
-length_stack ws (suc w) = ap suc (length_stack ws w)
-
-stack_set : (ws : List Inscribed) (w k : ℕ) (d : Inscribed) → w ≤ k → stack (set ws k d) w ≡ stack ws w
-unfolding stack
-stack_set ws zero k d h = refl
-stack_set ws (suc w) k d h = rw (get_or-set_other ws k w d no_circle (λ e. omega arith)) (ap (λ (x : List Inscribed). get_or ws w no_circle ∷ x) (stack_set ws w k d (omega arith)))
-
-pub stack_push : (ws : List Inscribed) (w : ℕ) (d : Inscribed) → w < length ws → stack (set ws w d) (w + 1) ≡ d ∷ stack ws w
-unfolding stack
-stack_push ws w d h = rw (add-one w, get_or-set_same ws w d no_circle h) (ap (λ (x : List Inscribed). d ∷ x) (stack_set ws w w d (omega arith)))
-
-pub stack_top : (ws : List Inscribed) (w : ℕ) → 0 < w → stack ws w ≡ get_or ws (w - 1) no_circle ∷ stack ws (w - 1)
-unfolding stack
-stack_top ws zero h = absurd (omega arith)
-stack_top ws (suc w) h = let e : suc w - 1 ≡ w = omega arith in rw e
 
 last_at : (c : Inscribed) (cs : List Inscribed) → get_or (c ∷ cs) (length cs) no_circle ≡ last_of c cs
 unfolding last_of
@@ -63,6 +37,10 @@ pub last_stored : (store old : List Float) (n : ℕ) (cs : List Inscribed) (c : 
 last_stored store old n cs c ds h e l =
     let m : n - 1 ≡ length ds = omega (arith, l, ap length e) in
     rw (h, m) (circle_of-stored cs old (length ds) no_circle (omega (arith, ap length e)) ∙ ap (λ (x : List Inscribed). get_or x (length ds) no_circle) e ∙ last_at c ds)
+
+-- the waiting circles stand in their vector with the newest last
+pub newest : (ws rest : List Inscribed) (b : Inscribed) → ws ≡ rest ++ (b ∷ []) → reverse ws ≡ b ∷ reverse rest
+newest ws rest b e = ap reverse e ∙ reverse-append rest (b ∷ [])
 
 -- ---- a state of the loop: the store holds a list, and what is left of the run from there is the whole
 
@@ -139,22 +117,22 @@ module _ (ns : List Float) (tol : Float) (slots limit : ℕ) (old : List Float) 
         unfolding after_trial
         after r e = rw e at (rw (l.long, waits) at paid)
 
-        pub loop_refused : (k : Refusal) → with_room slots n w asked ≡ refusal k → report (ended (refusal k)) n (u + 1) store ≡ reported old target
+        pub loop_refused : (k : Refusal) → with_room slots n w asked ≡ Err k → report (ended (Err k)) n (u + 1) store ≡ reported old target
         unfolding refine_step
         loop_refused k e =
             rw (add-one u)
-            (reported_as store n l.cs (ended (refusal k)) (stopped l.cs k) (suc u) l.long l.holds refl
-            (sym (whole_ends step (measure slots) (refine_falls ns tol slots) (under_limit limit) (stopped l.cs k) (suc u) (refusal k) refl) ∙ after (refusal k) e))
+            (reported_as store n l.cs (ended (Err k)) (stopped l.cs k) (suc u) l.long l.holds refl
+            (sym (whole_ends step (measure slots) (refine_falls ns tol slots) (under_limit limit) (stopped l.cs k) (suc u) (Err k) refl) ∙ after (Err k) e))
 
-        pub loop_added : (d : Inscribed) → with_room slots n w asked ≡ result (some d) → Left ns tol slots limit old target store n (d ∷ (b ∷ ws)) (u + 1)
-        loop_added d e = record { cs = l.cs; long = l.long; holds = l.holds; left = rw (add-one u) (after (result (some d)) e) }
+        pub loop_added : (d : Inscribed) → with_room slots n w asked ≡ Ok (Some d) → Left ns tol slots limit old target store n (d ∷ (b ∷ ws)) (u + 1)
+        loop_added d e = record { cs = l.cs; long = l.long; holds = l.holds; left = rw (add-one u) (after (Ok (Some d)) e) }
 
-        pub loop_accepted : with_room slots n w asked ≡ result none → Left ns tol slots limit old target (with_circle store n b) (n + 1) ws (u + 1)
+        pub loop_accepted : with_room slots n w asked ≡ Ok None → Left ns tol slots limit old target (with_circle store n b) (n + 1) ws (u + 1)
         loop_accepted e = record {
           cs = l.cs ++ (b ∷ []);
           long = length-append l.cs (b ∷ []) ∙ ap (λ (x : ℕ). x + 1) l.long;
           holds = rw (l.holds, ← l.long) (stored_push l.cs old b);
-          left = rw (add-one u) (after (result none) e);
+          left = rw (add-one u) (after (Ok None) e);
         }
 
 -- the loop begins with the old circles
@@ -165,34 +143,34 @@ loop_start ns tol slots limit old n ws u h k = record { cs = circles_of old n; l
 -- ---- what room there is where a trial ends neither in 16 nor in 15
 
 unfoldable tag_of : Answer (Option Inscribed) → ℕ
-tag_of (refusal k) = 0
-tag_of (result none) = 1
-tag_of (result (some d)) = 2
+tag_of (Err k) = 0
+tag_of (Ok None) = 1
+tag_of (Ok (Some d)) = 2
 
-pub room_to_wait : (slots n w : ℕ) (r : Answer (Option Inscribed)) (d : Inscribed) → with_room slots n w r ≡ result (some d) → w < 64
+pub room_to_wait : (slots n w : ℕ) (r : Answer (Option Inscribed)) (d : Inscribed) → with_room slots n w r ≡ Ok (Some d) → w < 64
 unfolding tag_of with_room
-room_to_wait slots n w (refusal k) d e = let z : ◌≡◌ {A = ℕ} 0 2 = ap tag_of e in absurd (omega arith)
-room_to_wait slots n w (result (some x)) d e = go (leb 64 w) (leb-false 64 w) e
+room_to_wait slots n w (Err k) d e = let z : ◌≡◌ {A = ℕ} 0 2 = ap tag_of e in absurd (omega arith)
+room_to_wait slots n w (Ok (Some x)) d e = go (leb 64 w) (leb-false 64 w) e
   where
-    go : (y : Bool) → (y ≡ false → w < 64) → ◌≡◌ {A = Answer (Option Inscribed)} (cond y (refusal StackFull) (result (some x))) (result (some d)) → w < 64
+    go : (y : Bool) → (y ≡ false → w < 64) → ◌≡◌ {A = Answer (Option Inscribed)} (cond y (Err StackFull) (Ok (Some x))) (Ok (Some d)) → w < 64
     go true h p = let z : ◌≡◌ {A = ℕ} 0 2 = ap tag_of p in absurd (omega arith)
     go false h p = h refl
-room_to_wait slots n w (result none) d e = go (leb slots n) e
+room_to_wait slots n w (Ok None) d e = go (leb slots n) e
   where
-    go : (y : Bool) → ◌≡◌ {A = Answer (Option Inscribed)} (cond y (refusal StoreFull) (result none)) (result (some d)) → w < 64
+    go : (y : Bool) → ◌≡◌ {A = Answer (Option Inscribed)} (cond y (Err StoreFull) (Ok None)) (Ok (Some d)) → w < 64
     go true p = let z : ◌≡◌ {A = ℕ} 0 2 = ap tag_of p in absurd (omega arith)
     go false p = let z : ◌≡◌ {A = ℕ} 1 2 = ap tag_of p in absurd (omega arith)
 
-pub room_to_take : (slots n w : ℕ) (r : Answer (Option Inscribed)) → with_room slots n w r ≡ result none → n < slots
+pub room_to_take : (slots n w : ℕ) (r : Answer (Option Inscribed)) → with_room slots n w r ≡ Ok None → n < slots
 unfolding tag_of with_room
-room_to_take slots n w (refusal k) e = let z : ◌≡◌ {A = ℕ} 0 1 = ap tag_of e in absurd (omega arith)
-room_to_take slots n w (result (some x)) e = go (leb 64 w) e
+room_to_take slots n w (Err k) e = let z : ◌≡◌ {A = ℕ} 0 1 = ap tag_of e in absurd (omega arith)
+room_to_take slots n w (Ok (Some x)) e = go (leb 64 w) e
   where
-    go : (y : Bool) → ◌≡◌ {A = Answer (Option Inscribed)} (cond y (refusal StackFull) (result (some x))) (result none) → n < slots
+    go : (y : Bool) → ◌≡◌ {A = Answer (Option Inscribed)} (cond y (Err StackFull) (Ok (Some x))) (Ok None) → n < slots
     go true p = let z : ◌≡◌ {A = ℕ} 0 1 = ap tag_of p in absurd (omega arith)
     go false p = let z : ◌≡◌ {A = ℕ} 2 1 = ap tag_of p in absurd (omega arith)
-room_to_take slots n w (result none) e = go (leb slots n) (leb-false slots n) e
+room_to_take slots n w (Ok None) e = go (leb slots n) (leb-false slots n) e
   where
-    go : (y : Bool) → (y ≡ false → n < slots) → ◌≡◌ {A = Answer (Option Inscribed)} (cond y (refusal StoreFull) (result none)) (result none) → n < slots
+    go : (y : Bool) → (y ≡ false → n < slots) → ◌≡◌ {A = Answer (Option Inscribed)} (cond y (Err StoreFull) (Ok None)) (Ok None) → n < slots
     go true h p = let z : ◌≡◌ {A = ℕ} 0 1 = ap tag_of p in absurd (omega arith)
     go false h p = h refl

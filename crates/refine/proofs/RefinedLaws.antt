@@ -8,7 +8,7 @@ use native.Mathlib.Omega.{arith}
 use lib.Dec.{leb}
 use lib.ListN.{length, length-append}
 use lib.Ieee.{Float}
-use Rattle.errors.specs.Answer.{refusal}
+use Rattle.std.specs.Prelude.{Err}
 use Rattle.runs.specs.Run.{Move, ends, goes, Ending, ended, Final, under_limit, whole}
 use Rattle.runs.proofs.LimitLaws.{run_holds, ended_step, units_within, part_grows}
 use Rattle.inscribed.specs.Store.{stored}
@@ -73,7 +73,7 @@ module _ (ns : List Float) (tol : Float) (slots limit : ℕ) (old : List Float) 
         go (inr q) = record { none_waits = refl; grown = omega (arith, ap length q.2, length-append q.1 (b ∷ []), q.3) }
     finished-done (refining [] (w ∷ ws)) k e = go (leb slots 0) e
       where
-        go : (x : Bool) → cond {A = Move State End} x (ends (refusal StoreFull)) (goes (refining (w ∷ []) ws)) ≡ ends finished → Done (refining [] (w ∷ ws))
+        go : (x : Bool) → cond {A = Move State End} x (ends (Err StoreFull)) (goes (refining (w ∷ []) ws)) ≡ ends finished → Done (refining [] (w ∷ ws))
         go true q = let z : ◌≡◌ {A = ℕ} 0 1 = cc in absurd (omega arith)
         go false q = let z : ◌≡◌ {A = ℕ} 0 1 = cc in absurd (omega arith)
     finished-done (refining (d ∷ ds) (w ∷ ws)) k e = let z : ◌≡◌ {A = ℕ} 0 1 = cc in absurd (omega arith)

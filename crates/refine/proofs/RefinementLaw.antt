@@ -10,7 +10,8 @@ use lib.Dec.{leb}
 use lib.ListN.{length, drop, length-append}
 use lib.Seq.{drop-append-le}
 use lib.Ieee.{Float}
-use Rattle.errors.specs.Answer.{Answer, result, refusal}
+use Rattle.std.specs.Prelude.{Ok, Err}
+use Rattle.errors.specs.Answer.{Answer}
 use Rattle.errors.proofs.Laws.{not_0, not_14}
 use Rattle.curve2.specs.Entry.{HasPoints}
 use Rattle.curve2.proofs.Laws.{entry_passed, entry_room}
@@ -41,11 +42,11 @@ module _ (o : Offer) where
   abbrev start : State
   start = refining olds (o.circle ∷ [])
 
-  pub entry_count : refine_entry o ≡ result tt → o.count ≤ slots o.store
+  pub entry_count : refine_entry o ≡ Ok tt → o.count ≤ slots o.store
   unfolding refine_entry
   entry_count e = ltb-false (slots o.store) o.count (entry_room _ _ _ e)
 
-  pub entry_points : refine_entry o ≡ result tt → HasPoints o.section
+  pub entry_points : refine_entry o ≡ Ok tt → HasPoints o.section
   unfolding refine_entry
   entry_points e = (entry_passed _ _ _ e).points
 
@@ -58,8 +59,8 @@ module _ (o : Offer) where
     where
       go : (a : Answer (Unit {0})) → refine_entry o ≡ a
           → LimitLaw o.section o.tol o.store o.count (λ l. after_entry o (under_limit l) a) (after_entry o never a) (λ l. accepted_after o (under_limit l) a) limit
-      go (refusal r) e = still_law o.section o.tol o.store o.count (refused_on_entry r o.store) tt refl refl refl (not_14 r) limit
-      go (result passed) e =
+      go (Err r) e = still_law o.section o.tol o.store o.count (refused_on_entry r o.store) tt refl refl refl (not_14 r) limit
+      go (Ok passed) e =
           run_law step (measure (slots o.store)) (refine_falls o.section o.tol (slots o.store)) (refine_grows o.section o.tol (slots o.store)) o.section o.tol o.store o.count start
           refl (within_slots o.store o.count (entry_count e)) start_sound
           (refine_sound_goes o.section o.tol o.count (slots o.store)) (refine_sound_pays o.section o.tol o.count (slots o.store)) limit
@@ -80,7 +81,7 @@ module _ (o : Offer) where
       last_one before q l = (drop o.count before, rw q (drop-append-le o.count before (o.circle ∷ []) l))
   finished_offered (refining [] (b ∷ ws)) h e = go (leb (slots o.store) 0) e
     where
-      go : (x : Bool) → cond {A = Move State End} x (ends (refusal StoreFull)) (goes (refining (b ∷ []) ws)) ≡ ends finished → (before : List Inscribed) × (drop o.count [] ≡ before ++ (o.circle ∷ []))
+      go : (x : Bool) → cond {A = Move State End} x (ends (Err StoreFull)) (goes (refining (b ∷ []) ws)) ≡ ends finished → (before : List Inscribed) × (drop o.count [] ≡ before ++ (o.circle ∷ []))
       go true q = let z : ◌≡◌ {A = ℕ} 0 1 = cc in absurd (omega arith)
       go false q = let z : ◌≡◌ {A = ℕ} 0 1 = cc in absurd (omega arith)
   finished_offered (refining (c ∷ cs) (b ∷ ws)) h e = let z : ◌≡◌ {A = ℕ} 0 1 = cc in absurd (omega arith)
@@ -92,8 +93,8 @@ module _ (o : Offer) where
   offered_law limit = go (refine_entry o)
     where
       go : (a : Answer (Unit {0})) → OfferedLast o.circle (λ l. after_entry o (under_limit l) a) (λ l. accepted_after o (under_limit l) a) limit
-      go (refusal r) = λ e. absurd (not_0 r e)
-      go (result passed) =
+      go (Err r) = λ e. absurd (not_0 r e)
+      go (Ok passed) =
           λ e.
           finished_offered (offered_run o (under_limit limit)).state
           (run_holds step (under_limit limit) (Kept o.section o.tol o.count (slots o.store) o.circle)

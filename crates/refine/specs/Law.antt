@@ -1,8 +1,6 @@
 -- Demand 3, "the limit law", as one record with a field for each of its sentences. It is stated of what a call gives: `at limit` is that under a limit,
 -- `plain` is that of the plain run without one, and `accepted limit` the circles that the plain run under that limit accepts, in its order. Assumes nothing.
-use Rattle.std.specs.Prelude.{◌≡◌, List, [], ◌∷◌, ◌++◌, ℕ, ◌+◌, ◌-◌, ◌*◌, ◌≤◌, ◌<◌, min, length, take, drop, Float}
-use Rattle.std.proofs.Math.Option.{none}
-use Rattle.errors.specs.Answer.{result}
+use Rattle.std.specs.Prelude.{◌≡◌, List, [], ◌∷◌, ◌++◌, ℕ, ◌+◌, ◌-◌, ◌*◌, ◌≤◌, ◌<◌, min, length, take, drop, Float, None, Ok}
 use Rattle.inscribed.specs.Store.{width, circles_of, all_numbers}
 use Rattle.circles.specs.Trial.{trial}
 use Rattle.inscribed.specs.declared.Inscribed.{Inscribed}
@@ -16,7 +14,7 @@ old_last old count = drop (count - 1) (circles_of old count)
 abbrev pub Settled : List Float → Float → List Inscribed → Type 0
 Settled ns tol [] = Unit {0}
 Settled ns tol (a ∷ []) = Unit {0}
-Settled ns tol (a ∷ (b ∷ cs)) = (trial ns tol a b ≡ result none) × Settled ns tol (b ∷ cs)
+Settled ns tol (a ∷ (b ∷ cs)) = (trial ns tol a b ≡ Ok None) × Settled ns tol (b ∷ cs)
 
 pub record LimitLaw (section : List Float) (tol : Float) (old : List Float) (count : ℕ)
     (at : ℕ → Called (Unit {0})) (plain : Called (Unit {0})) (accepted : ℕ → List Inscribed) (limit : ℕ) : Type 0 where

@@ -1,7 +1,6 @@
 -- The machine of refinements and marches: its states, its moves while circles wait, and the run of a refinement. Assumes nothing.
-use Rattle.std.specs.Prelude.{Bool, cond, List, [], ◌∷◌, ◌++◌, ℕ, zero, suc, ◌+◌, ◌-◌, ◌*◌, leb, length, Float}
-use Rattle.std.proofs.Math.Option.{Option, some, none}
-use Rattle.errors.specs.Answer.{Answer, result, refusal}
+use Rattle.std.specs.Prelude.{Bool, cond, List, [], ◌∷◌, ◌++◌, ℕ, zero, suc, ◌+◌, ◌-◌, ◌*◌, leb, length, Float, Option, Some, None, Ok, Err}
+use Rattle.errors.specs.Answer.{Answer}
 use Rattle.errors.specs.Lists.{last_of}
 use Rattle.runs.specs.Run.{Move, ends, goes, pays, Final, whole}
 use Rattle.circles.specs.Trial.{trial}
@@ -26,7 +25,7 @@ abbrev pub End : Type 0
 End = Answer (Unit {0})
 
 abbrev pub finished : End
-finished = result tt
+finished = Ok tt
 
 -- how many circles may wait: 16 for "a 65th circle"
 abbrev pub most_waiting : ℕ
@@ -34,14 +33,14 @@ most_waiting = 64
 
 -- What the trial gives, with w waiting and n accepted: "A circle it adds waits too, or 16. If it adds none, the tried one is accepted behind the last, or 15 if no slot is free."
 unfoldable pub with_room : ℕ → ℕ → ℕ → Answer (Option Inscribed) → Answer (Option Inscribed)
-with_room slots n w (refusal r) = refusal r
-with_room slots n w (result (some d)) = cond (leb most_waiting w) (refusal StackFull) (result (some d))
-with_room slots n w (result none) = cond (leb slots n) (refusal StoreFull) (result none)
+with_room slots n w (Err r) = Err r
+with_room slots n w (Ok (Some d)) = cond (leb most_waiting w) (Err StackFull) (Ok (Some d))
+with_room slots n w (Ok None) = cond (leb slots n) (Err StoreFull) (Ok None)
 
 abbrev pub after_room : List Inscribed → Inscribed → List Inscribed → Answer (Option Inscribed) → State
-after_room cs b ws (refusal r) = stopped cs r
-after_room cs b ws (result (some d)) = refining cs (d ∷ (b ∷ ws))
-after_room cs b ws (result none) = refining (cs ++ (b ∷ [])) ws
+after_room cs b ws (Err r) = stopped cs r
+after_room cs b ws (Ok (Some d)) = refining cs (d ∷ (b ∷ ws))
+after_room cs b ws (Ok None) = refining (cs ++ (b ∷ [])) ws
 
 -- the state after the trial of b, the newest of b and ws, against the last of the list
 unfoldable pub after_trial : ℕ → List Inscribed → Inscribed → List Inscribed → Answer (Option Inscribed) → State
@@ -50,7 +49,7 @@ after_trial slots cs b ws r = after_room cs b ws (with_room slots (length cs) (s
 -- "While any waits, the newest is tried against the *current* last. An empty list accepts it without a unit, or 15 if the store has no slot. Else comes a unit, or 14 at the limit, then the trial, which may refuse."
 unfoldable pub refine_move : List Float → Float → ℕ → List Inscribed → Inscribed → List Inscribed → Move State End
 unfolding after_trial last_of
-refine_move ns tol slots [] b ws = cond (leb slots 0) (ends (refusal StoreFull)) (goes (refining (b ∷ []) ws))
+refine_move ns tol slots [] b ws = cond (leb slots 0) (ends (Err StoreFull)) (goes (refining (b ∷ []) ws))
 refine_move ns tol slots (c ∷ cs) b ws = pays (after_trial slots (c ∷ cs) b ws (trial ns tol (last_of c cs) b))
 
 -- The measure that falls at each move. An accepted circle counts for more than all that can wait or be tried before the next one.
@@ -71,7 +70,7 @@ unfolding refine_move
 refine_step ns tol slots (refining cs []) = ends finished
 refine_step ns tol slots (refining cs (b ∷ ws)) = refine_move ns tol slots cs b ws
 refine_step ns tol slots (advancing cs k) = ends finished
-refine_step ns tol slots (stopped cs r) = ends (refusal r)
+refine_step ns tol slots (stopped cs r) = ends (Err r)
 
 -- the run from a list and waiting circles on, with u units taken; `full` says where no further unit may be taken
 abbrev pub refine_run : List Float → Float → ℕ → (ℕ → Bool) → List Inscribed → List Inscribed → ℕ → Final State End

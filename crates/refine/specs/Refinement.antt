@@ -1,6 +1,6 @@
 -- `refine_and_push`: "demand 3's plain run". Assumes nothing.
-use Rattle.std.specs.Prelude.{Bool, ◌||◌, List, [], ◌∷◌, ℕ, drop, Float}
-use Rattle.errors.specs.Answer.{Answer, result, refusal}
+use Rattle.std.specs.Prelude.{Bool, ◌||◌, List, [], ◌∷◌, ℕ, drop, Float, Ok, Err}
+use Rattle.errors.specs.Answer.{Answer}
 use Rattle.curve2.specs.Entry.{bad_general, finer_general, section_entry}
 use Rattle.runs.specs.Run.{Final, under_limit, never}
 use Rattle.inscribed.specs.Store.{slots, circles_of, bad_circle, bad_store, bad_store_count}
@@ -28,8 +28,8 @@ offered_run o full = refine_run o.section o.tol (slots o.store) full (circles_of
 
 -- "it makes the entry tests first, and a refusal there ends it with none accepted and 0 units"
 unfoldable pub after_entry : Offer → (ℕ → Bool) → Answer (Unit {0}) → Called (Unit {0})
-after_entry o full (refusal r) = refused_on_entry r o.store
-after_entry o full (result passed) = ran (reported o.store (offered_run o full))
+after_entry o full (Err r) = refused_on_entry r o.store
+after_entry o full (Ok passed) = ran (reported o.store (offered_run o full))
 
 unfoldable pub refinement : Offer → (ℕ → Bool) → Called (Unit {0})
 unfolding after_entry
@@ -44,8 +44,8 @@ plain_refinement o = refinement o never
 
 -- the circles that it accepts, in its order
 unfoldable pub accepted_after : Offer → (ℕ → Bool) → Answer (Unit {0}) → List Inscribed
-accepted_after o full (refusal r) = []
-accepted_after o full (result passed) = drop o.count (circles_in (offered_run o full).state)
+accepted_after o full (Err r) = []
+accepted_after o full (Ok passed) = drop o.count (circles_in (offered_run o full).state)
 
 abbrev pub accepted : Offer → (ℕ → Bool) → List Inscribed
 accepted o full = accepted_after o full (refine_entry o)

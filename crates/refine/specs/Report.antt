@@ -1,13 +1,12 @@
 -- What a call of a run gives: refused on entry, the number alone; of a run that began, the ending, the count of circles, the units and the store. Assumes nothing.
-use Rattle.std.specs.Prelude.{◌≡◌, List, ℕ, length, Float}
-use Rattle.errors.specs.Answer.{Answer, refusal, number_of, number}
+use Rattle.std.specs.Prelude.{◌≡◌, List, ℕ, length, Float, Err, Ok}
+use Rattle.errors.specs.Answer.{Answer, number_of, number}
 use Rattle.errors.specs.declared.Refusal.{Refusal}
 use Rattle.runs.specs.Run.{Ending, ended, spent, unfinished, Final}
 use Rattle.inscribed.specs.Store.{stored}
 use Rattle.refine.specs.Machine.{State, circles_in, End, finished}
 use Rattle.refine.specs.declared.RunEnd.{RunEnd}
 use Rattle.refine.specs.declared.Run.{Run}
-use Rattle.refine.specs.declared.RunAnswer.{RunAnswer}
 
 -- of a run whose result is an A: "result, with count of circles and units"; "A run refused later .. returns count and units with the number"
 pub record Report (A : Type 0) : Type 0 where
@@ -68,11 +67,11 @@ reported old o = record { ending = o.ending; count = length (circles_in o.state)
 abbrev pub listed_end : RunEnd → Ending End
 listed_end RunEnd.Finished = ended finished
 listed_end RunEnd.Spent = spent
-listed_end (RunEnd.Refused r) = ended (refusal r)
+listed_end (RunEnd.Refused r) = ended (Err r)
 
 abbrev pub listed_run : Run → List Float → RunReport
 listed_run r store = record { ending = listed_end r.end; count = r.count; units = r.units; store = store }
 
-abbrev pub listed_called : RunAnswer → List Float → Called (Unit {0})
-listed_called (RunAnswer.Ran r) store = ran (listed_run r store)
-listed_called (RunAnswer.Refused r) store = refused_on_entry r store
+abbrev pub listed_called : Answer Run → List Float → Called (Unit {0})
+listed_called (Ok r) store = ran (listed_run r store)
+listed_called (Err r) store = refused_on_entry r store

@@ -5,13 +5,15 @@ pub mod checked;
 mod moves;
 mod waiting;
 
+ghost use Rattle.curve2.specs.Lent.{IsLent};
+ghost use Rattle.errors.specs.Answer.{passed};
 ghost use Rattle.std.specs.Prelude.{◌≡◌, ◌||◌, List, Float};
-ghost use Rattle.curve2.specs.Entry.{listed_entry};
 ghost use Rattle.inscribed.specs.Store.{bad_circle, bad_store};
 ghost use Rattle.refine.specs.Report.{ending_number, called_number, listed_end, listed_called};
 ghost use Rattle.refine.specs.Refinement.{refine_entry, refine_of};
 
-use curve2::{AlsoBad, Entry, entering};
+use curve2::checked::Curve2;
+use curve2::{AlsoBad, entering};
 use errors::Refusal;
 use inscribed::Inscribed;
 
@@ -35,60 +37,61 @@ pub struct Run {
     pub units: u32,
 }
 
-// What a call of a run returns: refused on entry, the number alone; else what the run returns.
-#[derive(Clone, Copy)]
-pub enum RunAnswer {
-    Ran(Run),
-    Refused(Refusal),
-}
-
 impl Run {
     // A run that is finished.
     pub fn finished(count: usize, units: u32) -> Run
         ensures { result ≡ record { end = RunEnd.Finished; count = count; units = units } }
     {
-        let end = RunEnd::Finished;
-        Run { end, count, units }
+        Run {
+            end: RunEnd::Finished,
+            count,
+            units,
+        }
     }
 
     // A run that is spent.
     pub fn spent(count: usize, units: u32) -> Run
         ensures { result ≡ record { end = RunEnd.Spent; count = count; units = units } }
     {
-        let end = RunEnd::Spent;
-        Run { end, count, units }
+        Run {
+            end: RunEnd::Spent,
+            count,
+            units,
+        }
     }
 
     // A run that ends in a refusal.
     pub fn refused(r: Refusal, count: usize, units: u32) -> Run
         ensures { result ≡ record { end = RunEnd.Refused r; count = count; units = units } }
     {
-        let end = RunEnd::Refused(r);
-        Run { end, count, units }
+        Run {
+            end: RunEnd::Refused(r),
+            count,
+            units,
+        }
     }
 }
 
 // The number of an ending: 0 for a finished run, 14 for a spent one.
-fn end_number(end: RunEnd) -> u32
-    ensures { result ≡ ending_number (listed_end end) }
-{
-    match end {
-        RunEnd::Finished => 0,
-        RunEnd::Spent => 14,
-        RunEnd::Refused(r) => errors::number(r),
+impl From<RunEnd> for u32 {
+    ghost from_gives = { λ end n. n ≡ ending_number (listed_end end) };
+
+    fn from(end: RunEnd) -> u32 {
+        match end {
+            RunEnd::Finished => 0,
+            RunEnd::Spent => 14,
+            RunEnd::Refused(r) => u32::from(r),
+        }
     }
 }
 
 // The number of what a run's call returns: 0 for a finished run.
-pub fn number(answer: RunAnswer) -> u32
+pub fn number(answer: Result<Run, Refusal>) -> u32
     ensures { (store : List Float) → result ≡ called_number (listed_called answer store) }
 {
     match answer {
-        RunAnswer::Ran(run) => {
-            let end = run.end;
-            end_number(end)
-        }
-        RunAnswer::Refused(r) => errors::number(r),
+        Ok(run) => u32::from(run.end),
+        Err(r) => u32::from(r),
     }
 }
 
@@ -96,37 +99,33 @@ pub fn number(answer: RunAnswer) -> u32
 fn has_bad_number(store: &[f64], count: usize, circle: Inscribed) -> bool
     ensures { result ≡ (bad_store store.now count || bad_circle circle) }
 {
-    if inscribed::store::has_bad_circle(store, count) {
-        return true;
-    }
-    inscribed::store::is_bad_circle(circle)
+    inscribed::store::has_bad_circle(store, count) || inscribed::store::is_bad_circle(circle)
 }
 
 // The entry tests of a refinement.
-fn entered(
-    section: &[f64],
+#[tactic(auto, unfolding(crate::specs::Refinement::refine_entry))]
+fn entered<'a>(
+    section: &'a [f64],
     section_tol: f64,
     tol: f64,
     store: &[f64],
     count: usize,
     circle: Inscribed,
-) -> Entry
-    ensures { listed_entry result ≡ refine_entry (record { section = section.now; section_tol = section_tol; tol = tol; store = store.now; count = count; circle = circle }) }
+) -> Result<Curve2<'a>, Refusal>
+    ensures entry { passed result ≡ refine_entry (record { section = section.now; section_tol = section_tol; tol = tol; store = store.now; count = count; circle = circle }) }
+    ensures lent { IsLent section.now section_tol result }
 {
-    let number = has_bad_number(store, count, circle);
-    let tolerance = entering::is_bad_general(tol);
-    let finer = entering::is_finer_general(section_tol, tol);
-    let room = inscribed::store::is_bad_store_count(store, count);
     let also = AlsoBad {
-        number,
-        tolerance,
-        finer,
-        room,
+        number: has_bad_number(store, count, circle),
+        tolerance: entering::is_bad_general(tol),
+        finer: entering::is_finer_general(section_tol, tol),
+        room: inscribed::store::is_bad_store_count(store, count),
     };
     entering::section_entry(section, section_tol, also)
 }
 
 // Offers a circle to a store that holds `count`, and refines until none waits, within a limit of units.
+#[tactic(auto, unfolding(crate::specs::Refinement::refinement))]
 pub fn refine_and_push(
     section: &[f64],
     section_tol: f64,
@@ -135,15 +134,10 @@ pub fn refine_and_push(
     count: usize,
     circle: Inscribed,
     limit: u32,
-) -> RunAnswer
+) -> Result<Run, Refusal>
     ensures { listed_called result store.new ≡ refine_of (record { section = section.now; section_tol = section_tol; tol = tol; store = store.old; count = count; circle = circle }) limit }
 {
-    match entered(section, section_tol, tol, store, count, circle) {
-        Entry::Passed => {
-            let slots = inscribed::store::slots_in(store.len());
-            let run = checked::refine(section, tol, store, slots, count, circle, limit, 0);
-            RunAnswer::Ran(run)
-        }
-        Entry::Refused(r) => RunAnswer::Refused(r),
-    }
+    let curve = entered(section, section_tol, tol, store, count, circle)?;
+    let slots = inscribed::store::slots_in(store.len());
+    Ok(checked::refine(&curve, tol, store, slots, count, circle, limit, 0))
 }

@@ -1,9 +1,16 @@
 -- The exact test whether q is the whole number nearest to the root of a * 2 ^ 52. With q = h * 2 ^ 26 + l, a * 2 ^ 52 - q * q is (d * 2 ^ 25 - h * l) * 2 ^ 27 - l * l for d = a - h * h.
 -- The code has each difference modulo 2 ^ 64, and knows of the first two that they are small. Assumes nothing.
-use Rattle.std.proofs.Common.{◌≡◌, ℕ, ◌+◌, ◌-◌, ◌*◌, ◌/◌, ◌%◌, ◌^◌, ◌<◌, ◌≤◌, Bool, true, false, not, T, leb, ◌⊎◌, sym, ap, ◌∙◌, inl, inr, zero-le, lt_of_le_of_lt, le_of_lt, mod-eq_of_lt, mul-le-mul_left, mul-lt-mul_of_pos_right, arith, leb→le}
+use Rattle.std.proofs.Common.{◌≡◌, ℕ, ◌+◌, ◌-◌, ◌*◌, ◌/◌, ◌%◌, ◌^◌, ◌<◌, ◌≤◌, Bool, true, false, not, T, leb, ◌⊎◌, sym, ap, ◌∙◌, inl, inr, zero-le, lt_of_le_of_lt, le_of_lt, mod-eq_of_lt, mod-lt, mul-le-mul_left, mul-lt-mul_of_pos_right, arith, leb→le}
 use lib.Pow.{split}
 use lib.Dec.{nleb→lt}
 use Rattle.root.specs.Code.{NearRoot}
+
+-- a - b, modulo 2 ^ 64
+abbrev pub wrapped_sub : ℕ → ℕ → ℕ
+wrapped_sub a b = (a + (2 ^ 64 - b)) % 2 ^ 64
+
+wrapped_back : (a b : ℕ) → a < 2 ^ 64 → b < 2 ^ 64 → (wrapped_sub a b + b) % 2 ^ 64 ≡ a
+wrapped_back a b A B = omega arith
 
 product_lt : {a b m n : ℕ} → a < m → b < n → a * b < m * n
 product_lt {a} {b} {m} {n} h k = lt_of_le_of_lt (mul-le-mul_left a (le_of_lt k)) (mul-lt-mul_of_pos_right h (lt_of_le_of_lt zero-le k))
@@ -79,8 +86,12 @@ module _ (q l : ℕ) (hi : q < 2 ^ 53) (L : l ≡ q % 2 ^ 26) where
       open_square : (h l : ℕ) → (h * 2 ^ 26 + l) * (h * 2 ^ 26 + l) ≡ h * h * 2 ^ 52 + h * l * 2 ^ 27 + l * l
       open_square h l = omega arith
 
-  pub nearest_test : (a d e f : ℕ) → 0 < q → (d + q / 2 ^ 26 * (q / 2 ^ 26)) % 2 ^ 64 ≡ a → d < 2 ^ 29
-      → (e + q / 2 ^ 26 * l) % 2 ^ 64 ≡ d * 2 ^ 25 % 2 ^ 64 → e < 2 ^ 64 → (e + 2 ^ 27) % 2 ^ 64 < 2 ^ 28
-      → (f + l * l) % 2 ^ 64 ≡ (e * 2 ^ 27 % 2 ^ 64 + (q - 1)) % 2 ^ 64 → f < q * 2 → NearRoot (a * 2 ^ 52) q
-  nearest_test a d e f lo D d_small E e-fits e-small F f-small =
-      near_of a q (q / 2 ^ 26 * (q / 2 ^ 26)) (q / 2 ^ 26 * l) (l * l) d e f square-lt cross-lt rest_lt lo hi D d_small E e-fits e-small F f-small parted
+  -- the test passed
+  pub nearest_test : (a : ℕ) → a < 2 ^ 54 → 0 < q
+      → let d = wrapped_sub a (q / 2 ^ 26 * (q / 2 ^ 26)) in let e = wrapped_sub (d * 2 ^ 25 % 2 ^ 64) (q / 2 ^ 26 * l) in
+      d < 2 ^ 29 → (e + 2 ^ 27) % 2 ^ 64 < 2 ^ 28 → wrapped_sub ((e * 2 ^ 27 % 2 ^ 64 + (q - 1)) % 2 ^ 64) (l * l) < q * 2 → NearRoot (a * 2 ^ 52) q
+  nearest_test a A lo d_small e-small f-small =
+      near_of a q (q / 2 ^ 26 * (q / 2 ^ 26)) (q / 2 ^ 26 * l) (l * l) _ _ _ square-lt cross-lt rest_lt lo hi
+      (wrapped_back a _ (omega arith) (omega (arith, square-lt))) d_small
+      (wrapped_back _ _ (mod-lt _ (omega arith)) (omega (arith, cross-lt))) (mod-lt _ (omega arith)) e-small
+      (wrapped_back _ _ (mod-lt _ (omega arith)) (omega (arith, rest_lt))) f-small parted

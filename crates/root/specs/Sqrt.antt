@@ -1,10 +1,10 @@
 -- Square roots: of a whole number, cut to a whole number; of a binary64 value, as IEEE 754-2019's squareRoot, rounded to the nearest value; and asked for directly. Assumes nothing.
-use Rattle.std.specs.Prelude.{ℕ, zero, suc, ◌+◌, ◌-◌, ◌*◌, ◌/◌, ◌^◌, ◌<◌, ◌≤◌, true, false, cond, ℤ, nat_le, Float}
+use Rattle.std.specs.Prelude.{ℕ, zero, suc, ◌+◌, ◌-◌, ◌*◌, ◌/◌, ◌^◌, ◌<◌, ◌≤◌, true, false, cond, ℤ, nat_le, Float, Err}
 use Prim.Native.Nat.{compare}
 use Rattle.std.specs.Float.{nan, inf, fin, binary64}
 use Rattle.std.specs.Float.Ieee.{prec, low, up, down, size, nearest, units}
 use Rattle.std.specs.Float.Ieee.Scale.{finite}
-use Rattle.errors.specs.Answer.{Answer, refusal, watched}
+use Rattle.errors.specs.Answer.{Answer, watched}
 use Rattle.errors.specs.declared.Refusal.TheVariants.{BadNumber}
 
 -- ---- of a whole number: the largest whole number whose square is at most n
@@ -59,4 +59,4 @@ root_of x = watched (sqrt_of x)
 
 -- asked for directly: "what isn't finite is 2", finite and "below zero gives 12"
 abbrev pub root_asked : Float → Answer Float
-root_asked x = cond (finite x) (root_of x) (refusal BadNumber)
+root_asked x = cond (finite x) (root_of x) (Err BadNumber)

@@ -13,16 +13,13 @@ fn root_above_zero(x: f64) -> f64
     requires { T (positive x) }
     ensures { result ≡ sqrt_of x }
 {
-    let s = pattern::split(x);
-    let k = s.k;
-    let word = s.a << 10;
-    let root = isqrt::word::root_of_word(word, 53);
-    let q = root.q;
-    let r = root.r;
-    if q < r {
-        return pattern::joined(k, q + 1);
+    let scaled = pattern::split(x);
+    let root = isqrt::root_of_word(scaled.a << 10, 53);
+    if root.q < root.r {
+        pattern::joined(scaled.k, root.q + 1)
+    } else {
+        pattern::joined(scaled.k, root.q)
     }
-    pattern::joined(k, q)
 }
 
 // The square root, rounded to the nearest value. A number below zero gives NaN, and -0 gives -0.
@@ -30,12 +27,10 @@ pub(crate) fn square_root_by_digits(x: f64) -> f64
     ensures { result ≡ sqrt_of x }
 {
     if x < 0.0 {
-        return 0.0 / 0.0;
+        f64::NAN
+    } else if 0.0 < x && x < f64::INFINITY {
+        root_above_zero(x)
+    } else {
+        x
     }
-    if 0.0 < x {
-        if x < 1.0 / 0.0 {
-            return root_above_zero(x);
-        }
-    }
-    x
 }

@@ -29,27 +29,23 @@ pub(crate) fn estimate(bits: u64) -> u64
     let m = ((bits & 0x001f_ffff_ffff_ffff) ^ 0x0010_0000_0000_0000) + 0x3ff0_0000_0000_0000;
     let w = 0x5fd6_eb50_c7b5_37a9 - (m >> 1);
     let s = root_of(f64::from_bits(m), f64::from_bits(w));
-    if s != s {
-        return 0x0010_0000_0000_0000;
+    if s.is_nan() {
+        0x0010_0000_0000_0000
+    } else {
+        (s.to_bits() & 0x000f_ffff_ffff_ffff) | 0x0010_0000_0000_0000
     }
-    (f64::to_bits(s) & 0x000f_ffff_ffff_ffff) | 0x0010_0000_0000_0000
 }
 
-// Whether q is the whole number nearest to the root of a * 2^52. With q = h * 2^26 + l, a * 2^52 - q * q is found in three steps,
-// each of which gives up where the numbers get too large.
+// Whether q is the whole number nearest to the root of a * 2^52. With q = h * 2^26 + l, a * 2^52 - q * q is found in three differences,
+// of which none may get too large.
 pub(crate) fn is_nearest(a: u64, q: u64) -> bool
     requires { (a < 2 ^ 54) × (2 ^ 52 ≤ q) × (q < 2 ^ 53) }
     ensures { result ≡ true → NearRoot (a * 2 ^ 52) q }
 {
     let h = q >> 26;
     let l = q & 0x03ff_ffff;
-    let d = std::num::wrapping_sub_u64(a, h * h);
-    if d < 0x2000_0000 {
-        let e = std::num::wrapping_sub_u64(d << 25, h * l);
-        if std::num::wrapping_add_u64(e, 0x0800_0000) < 0x1000_0000 {
-            let f = std::num::wrapping_add_u64(e << 27, q - 1);
-            return std::num::wrapping_sub_u64(f, l * l) < q * 2;
-        }
-    }
-    false
+    let d = a.wrapping_sub(h * h);
+    let e = (d << 25).wrapping_sub(h * l);
+    let f = (e << 27).wrapping_add(q - 1);
+    d < 0x2000_0000 && e.wrapping_add(0x0800_0000) < 0x1000_0000 && f.wrapping_sub(l * l) < q * 2
 }

@@ -1,7 +1,6 @@
 -- What a call by the C interface returns, and what it leaves behind the references that it is lent: its values where there is a result, else what stood there. Assumes nothing.
-use Rattle.std.specs.Prelude.{Bool, true, false, List, [], ◌∷◌, ℕ, ◌-◌, ◌*◌, Float}
-use Rattle.std.proofs.Math.Option.{Option, some, none}
-use Rattle.errors.specs.Answer.{Answer, result, refusal, number_of, ◌>>=◌}
+use Rattle.std.specs.Prelude.{Bool, true, false, List, [], ◌∷◌, ℕ, ◌-◌, ◌*◌, Float, Option, Some, None, Ok, Err}
+use Rattle.errors.specs.Answer.{Answer, number_of, ◌>>=◌}
 use Rattle.points.specs.declared.Point2.{Point2}
 use Rattle.line2.specs.declared.Line2.{Line2}
 use Rattle.curve2.specs.declared.CurveStation2.{CurveStation2}
@@ -25,8 +24,8 @@ pub record Told (A : Type 0) : Type 0 where
 
 -- f of a result is written; a refusal leaves what stood there before
 unfoldable pub told_as : {A B : Type 0} → (A → B) → B → Answer A → Told B
-told_as f before (result a) = record { number = 0; left = f a }
-told_as f before (refusal r) = record { number = number_of r; left = before }
+told_as f before (Ok a) = record { number = 0; left = f a }
+told_as f before (Err r) = record { number = number_of r; left = before }
 
 -- a result is written as it is
 abbrev pub told : {A : Type 0} → A → Answer A → Told A
@@ -81,8 +80,8 @@ abbrev pub trial_cells : List Float → Bool → TrialCells
 trial_cells ns b = record { circle = ns; added = b }
 
 abbrev pub trial_left : List Float → Option Inscribed → TrialCells
-trial_left before (some c) = trial_cells (numbers_of c) true
-trial_left before none = trial_cells before false
+trial_left before (Some c) = trial_cells (numbers_of c) true
+trial_left before None = trial_cells before false
 
 -- the first and the last circle
 pub record EndCells : Type 0 where
@@ -125,7 +124,7 @@ part_cells i n = record { first = i; numbers = n }
 
 -- the circles in use from a place on
 abbrev pub part_of : List Float → ℕ → ℕ → Answer PartCells
-part_of ns count place = circles_entry ns count place >>= λ passed. result (part_cells (place * width) ((count - place) * width))
+part_of ns count place = circles_entry ns count place >>= λ passed. Ok (part_cells (place * width) ((count - place) * width))
 
 -- ---- runs
 
@@ -149,8 +148,8 @@ abbrev pub start_cells : List ℕ → Bool → StartCells
 start_cells es b = record { edges = es; found = b }
 
 unfoldable pub edges_left : List ℕ → Option HitEdges → StartCells
-edges_left before (some e) = start_cells (edge_numbers e) true
-edges_left before none = start_cells before false
+edges_left before (Some e) = start_cells (edge_numbers e) true
+edges_left before None = start_cells before false
 
 unfoldable pub start_after : StartCells → Option HitEdges → Called (Unit {0}) → StartCells
 unfolding edges_left
@@ -162,8 +161,8 @@ start_left before m = start_after before m.edges m.called
 
 -- the edge point of a fit, where it ends with one
 unfoldable pub point_at_end : List Float → Ending (Answer Point2) → List Float
-point_at_end before (ended (result p)) = p.x ∷ p.y ∷ []
-point_at_end before (ended (refusal r)) = before
+point_at_end before (ended (Ok p)) = p.x ∷ p.y ∷ []
+point_at_end before (ended (Err r)) = before
 point_at_end before spent = before
 point_at_end before unfinished = before
 

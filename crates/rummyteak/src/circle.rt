@@ -6,8 +6,6 @@ ghost use Rattle.rummyteak.specs.Told.{told_as, given_line, crossing_cells, circ
 
 use crate::{given, telling};
 use inscribed::store::WIDTH;
-use line2::Line2;
-use points::{Point2, Vector2};
 
 // The circle of a line that is taken as a crossing.
 pub fn rummyteak_inscribed_from_crossing(
@@ -22,9 +20,7 @@ pub fn rummyteak_inscribed_from_crossing(
 ) -> u32
     ensures { (record { number = result; left = circle.new }) ≡ told_as numbers_of circle.old (from_crossing_asked section.now section_tol tol (given_line ox oy dx dy)) }
 {
-    let origin = Point2 { x: ox, y: oy };
-    let direction = Vector2 { x: dx, y: dy };
-    let line = Line2 { origin, direction };
+    let line = given::line(ox, oy, dx, dy);
     telling::tell_circle(
         circles::inscribed_from_crossing(section, section_tol, tol, line),
         circle,
@@ -45,9 +41,7 @@ pub fn rummyteak_try_inscribed(
 ) -> u32
     ensures { (record { number = result; left = crossing_cells circle.new edges.new }) ≡ told_as circle_on_line_left (crossing_cells circle.old edges.old) (try_asked section.now section_tol tol (given_line ox oy dx dy)) }
 {
-    let origin = Point2 { x: ox, y: oy };
-    let direction = Vector2 { x: dx, y: dy };
-    let line = Line2 { origin, direction };
+    let line = given::line(ox, oy, dx, dy);
     telling::tell_circle_on_line(
         circles::try_inscribed(section, section_tol, tol, line),
         circle,

@@ -17,7 +17,7 @@ pub fn rummyteak_is_open_at_end(
 ) -> u32
     ensures { (record { number = result; left = is_open.new }) ≡ told is_open.old (open_at_end (record { section = section.now; section_tol = section_tol; tol = tol; store = store.now; count = count; at_front = at_front })) }
 {
-    telling::tell_bool(
+    telling::tell(
         edges::is_open_at_end(section, section_tol, tol, store, count, at_front),
         is_open,
     )

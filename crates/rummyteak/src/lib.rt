@@ -22,5 +22,5 @@ ghost use Rattle.rummyteak.specs.Told.{told};
 pub fn rummyteak_sqrt(x: f64, root: &mut f64) -> u32
     ensures { (record { number = result; left = root.new }) ≡ told root.old (root_asked x) }
 {
-    telling::tell_scalar(root::sqrt(x), root)
+    telling::tell(root::sqrt(x), root)
 }

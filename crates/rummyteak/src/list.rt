@@ -8,7 +8,6 @@ ghost use Rattle.lists.specs.Asked.{store_entry, ends_asked, tmax_asked, spacing
 ghost use Rattle.rummyteak.specs.Told.{told_as, told, line_numbers, end_cells, ends_left, part_cells, part_of};
 
 use crate::telling;
-use curve2::Entry;
 use inscribed::store::WIDTH;
 
 // The first and the last circle in use.
@@ -27,14 +26,14 @@ pub fn rummyteak_front_and_back(
 pub fn rummyteak_index_of_tmax(store: &[f64], count: usize, place: &mut usize) -> u32
     ensures { (record { number = result; left = place.new }) ≡ told place.old (tmax_asked store.now count) }
 {
-    telling::tell_place(lists::index_of_tmax(store, count), place)
+    telling::tell(lists::index_of_tmax(store, count), place)
 }
 
 // The mean distance of neighbouring centres.
 pub fn rummyteak_average_spacing(store: &[f64], count: usize, spacing: &mut f64) -> u32
     ensures { (record { number = result; left = spacing.new }) ≡ told spacing.old (spacing_asked store.now count) }
 {
-    telling::tell_scalar(lists::average_spacing(store, count), spacing)
+    telling::tell(lists::average_spacing(store, count), spacing)
 }
 
 // The line that clips the end of the circles in use.
@@ -79,13 +78,11 @@ pub fn rummyteak_circles_from(
     ensures { (record { number = result; left = part_cells first.new numbers.new }) ≡ told (part_cells first.old numbers.old) (part_of store.now count place) }
 {
     match inscribed::store::circles_entry(store, count, place) {
-        Entry::Passed => {
-            let start = place * WIDTH;
-            let n = (count - place) * WIDTH;
-            *first = start;
-            *numbers = n;
+        Ok(()) => {
+            *first = place * WIDTH;
+            *numbers = (count - place) * WIDTH;
             0
         }
-        Entry::Refused(r) => errors::number(r),
+        Err(r) => u32::from(r),
     }
 }

@@ -8,8 +8,6 @@ ghost use Rattle.rummyteak.specs.Told.{given_line, told_run, start_cells, start_
 
 use crate::{given, telling};
 use inscribed::store::WIDTH;
-use line2::Line2;
-use points::{Point2, Vector2};
 
 // A circle offered to a store that holds `stated`, refined within a limit of units.
 pub fn rummyteak_refine_and_push(
@@ -52,9 +50,7 @@ pub fn rummyteak_march(
     ensures store_after { (record { number = result; count = count.new; units = units.new; store = store.new }) ≡ told_run count.old units.old (march_of (record { section = section.now; section_tol = section_tol; tol = tol; line = given_line ox oy dx dy; store = store.old }) limit) }
     ensures found_after { start_cells edges.new found.new ≡ start_left (start_cells edges.old found.old) (march_told (record { section = section.now; section_tol = section_tol; tol = tol; line = given_line ox oy dx dy; store = store.old }) limit) }
 {
-    let origin = Point2 { x: ox, y: oy };
-    let direction = Vector2 { x: dx, y: dy };
-    let line = Line2 { origin, direction };
+    let line = given::line(ox, oy, dx, dy);
     let answer = camber::march::march(section, section_tol, tol, line, store, limit);
     telling::tell_edges(answer, edges, found);
     telling::tell_run(camber::march::called(answer), count, units)
@@ -76,9 +72,7 @@ pub fn rummyteak_extract_circles(
 ) -> u32
     ensures { (record { number = result; count = count.new; units = units.new; store = store.new }) ≡ told_run count.old units.old (extraction_of (record { section = section.now; section_tol = section_tol; tol = tol; line = given_line ox oy dx dy; store = store.old }) limit) }
 {
-    let origin = Point2 { x: ox, y: oy };
-    let direction = Vector2 { x: dx, y: dy };
-    let line = Line2 { origin, direction };
+    let line = given::line(ox, oy, dx, dy);
     telling::tell_run(
         camber::extraction::extract_circles(section, section_tol, tol, line, store, limit),
         count,

@@ -3,22 +3,21 @@ ghost use Rattle.std.specs.Prelude.{◌≡◌};
 ghost use Rattle.sections.specs.Asked.{closed_asked, length_asked, front_asked, back_asked, vertex_asked, at_length_asked, length_along_asked, closest_asked, crossing_asked, joined_asked};
 ghost use Rattle.rummyteak.specs.Told.{told_as, told, given_line, crossing_cells, crossing_left, station_cells, station_left};
 
-use crate::telling;
-use line2::Line2;
-use points::{Point2, Vector2};
+use crate::{given, telling};
+use points::Point2;
 
 // Whether a section is closed.
 pub fn rummyteak_is_closed(section: &[f64], tol: f64, is_closed: &mut bool) -> u32
     ensures { (record { number = result; left = is_closed.new }) ≡ told is_closed.old (closed_asked section.now tol) }
 {
-    telling::tell_bool(sections::is_closed(section, tol), is_closed)
+    telling::tell(sections::is_closed(section, tol), is_closed)
 }
 
 // The length of a whole section.
 pub fn rummyteak_length(section: &[f64], tol: f64, length: &mut f64) -> u32
     ensures { (record { number = result; left = length.new }) ≡ told length.old (length_asked section.now tol) }
 {
-    telling::tell_scalar(sections::length(section, tol), length)
+    telling::tell(sections::length(section, tol), length)
 }
 
 // The station at the first point.
@@ -100,7 +99,7 @@ pub fn rummyteak_length_along(
 ) -> u32
     ensures { (record { number = result; left = length.new }) ≡ told length.old (length_along_asked section.now tol index fraction) }
 {
-    telling::tell_scalar(
+    telling::tell(
         sections::length_along(section, tol, index, fraction),
         length,
     )
@@ -119,9 +118,7 @@ pub fn rummyteak_crossing_line(
 ) -> u32
     ensures { (record { number = result; left = crossing_cells crossing.new edges.new }) ≡ told_as crossing_left (crossing_cells crossing.old edges.old) (crossing_asked section.now tol (given_line ox oy dx dy)) }
 {
-    let origin = Point2 { x: ox, y: oy };
-    let direction = Vector2 { x: dx, y: dy };
-    let line = Line2 { origin, direction };
+    let line = given::line(ox, oy, dx, dy);
     telling::tell_crossing(sections::crossing_line(section, tol, line), crossing, edges)
 }
 
@@ -138,9 +135,7 @@ pub fn rummyteak_joined_crossing(
 ) -> u32
     ensures { (record { number = result; left = crossing_cells crossing.new edges.new }) ≡ told_as crossing_left (crossing_cells crossing.old edges.old) (joined_asked section.now tol (given_line ox oy dx dy)) }
 {
-    let origin = Point2 { x: ox, y: oy };
-    let direction = Vector2 { x: dx, y: dy };
-    let line = Line2 { origin, direction };
+    let line = given::line(ox, oy, dx, dy);
     telling::tell_crossing(
         sections::joined_crossing(section, tol, line),
         crossing,

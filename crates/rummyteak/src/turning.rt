@@ -13,7 +13,7 @@ pub fn rummyteak_orient_tmax_fwd(store: &mut [f64], count: usize, turned: &mut b
     ensures store_after { store.new ≡ fwd_store OrientFwdAft.TmaxFwd store.old count }
 {
     let how = OrientFwdAft::TmaxFwd;
-    telling::tell_bool(how.apply(store, count), turned)
+    telling::tell(how.apply(store, count), turned)
 }
 
 // The same by the direction of the airflow.
@@ -29,7 +29,7 @@ pub fn rummyteak_orient_airflow(
 {
     let d = Vector2 { x, y };
     let how = OrientFwdAft::Airflow(d);
-    telling::tell_bool(how.apply(store, count), turned)
+    telling::tell(how.apply(store, count), turned)
 }
 
 // The same by a direction that points forward.
@@ -45,7 +45,7 @@ pub fn rummyteak_orient_fwd(
 {
     let d = Vector2 { x, y };
     let how = OrientFwdAft::Fwd(d);
-    telling::tell_bool(how.apply(store, count), turned)
+    telling::tell(how.apply(store, count), turned)
 }
 
 // Brings the first contact of each circle in use to the lower side, by the side to which the camber bends.
@@ -54,7 +54,7 @@ pub fn rummyteak_orient_curvature(store: &mut [f64], count: usize, swapped: &mut
     ensures store_after { store.new ≡ upper_store OrientUpperLower.Curvature store.old count }
 {
     let how = OrientUpperLower::Curvature;
-    telling::tell_bool(how.apply(store, count), swapped)
+    telling::tell(how.apply(store, count), swapped)
 }
 
 // The same by a direction that points to the upper side.
@@ -70,7 +70,7 @@ pub fn rummyteak_orient_upper(
 {
     let d = Vector2 { x, y };
     let how = OrientUpperLower::Upper(d);
-    telling::tell_bool(how.apply(store, count), swapped)
+    telling::tell(how.apply(store, count), swapped)
 }
 
 // The same by a direction that points to the lower side.
@@ -86,5 +86,5 @@ pub fn rummyteak_orient_lower(
 {
     let d = Vector2 { x, y };
     let how = OrientUpperLower::Lower(d);
-    telling::tell_bool(how.apply(store, count), swapped)
+    telling::tell(how.apply(store, count), swapped)
 }

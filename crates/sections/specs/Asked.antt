@@ -1,7 +1,9 @@
 -- The entry points of a section: each makes the entry tests (1, 2, 3, 4, 6 in number order) and then its step. Assumes nothing.
-use Rattle.std.specs.Prelude.{Bool, true, false, not, ◌&&◌, List, ℕ, ◌/◌, ltb, length, Float}
+use Rattle.std.specs.Prelude.{Bool, true, false, not, List, ℕ, ◌/◌, ltb, length, Float, Ok}
 use Rattle.std.specs.Float.Ieee.Scale.{finite}
-use Rattle.errors.specs.Answer.{Answer, result, refusal, watched, ◌>>=◌}
+use Rattle.errors.specs.Answer.{Answer, watched, ◌>>=◌}
+use Rattle.points.specs.Points.{finite_point}
+use Rattle.line2.specs.Lines.{finite_line}
 use Rattle.points.specs.declared.Point2.{Point2}
 use Rattle.line2.specs.declared.Line2.{Line2}
 use Rattle.curve2.specs.Section.{is_closed, whole_length}
@@ -12,7 +14,6 @@ use Rattle.queries.specs.declared.Crossing.{Crossing}
 use Rattle.curve2.specs.Stations.{last_vertex, at_vertex}
 use Rattle.curve2.specs.declared.CurveStation2.{CurveStation2}
 use Rattle.sections.specs.Places.{at_length, length_along, at_closest}
-use Rattle.sections.specs.declared.BoolAnswer.{BoolAnswer}
 
 -- nothing beside the section; a number that isn't finite (2); a place that isn't there (4)
 abbrev pub alone : AlsoBad
@@ -24,16 +25,10 @@ with_number good = record { number = not good; tolerance = false; finer = false;
 abbrev pub with_place : Bool → Bool → AlsoBad
 with_place good there = record { number = not good; tolerance = false; finer = false; room = not there }
 
-abbrev pub finite_point : Point2 → Bool
-finite_point p = finite p.x && finite p.y
-
-abbrev pub finite_line : Line2 → Bool
-finite_line l = finite_point l.origin && (finite l.direction.x && finite l.direction.y)
-
 -- ---- the section itself
 
 unfoldable pub closed_asked : List Float → Float → Answer Bool
-closed_asked ns tol = section_entry ns tol alone >>= λ passed. result (is_closed ns tol)
+closed_asked ns tol = section_entry ns tol alone >>= λ passed. Ok (is_closed ns tol)
 
 unfoldable pub length_asked : List Float → Float → Answer Float
 length_asked ns tol = section_entry ns tol alone >>= λ passed. watched (whole_length ns)
@@ -68,9 +63,3 @@ crossing_asked ns tol l = section_entry ns tol (with_number (finite_line l)) >>=
 
 unfoldable pub joined_asked : List Float → Float → Line2 → Answer Crossing
 joined_asked ns tol l = section_entry ns tol (with_number (finite_line l)) >>= λ passed. joined_crossing_of ns tol l >>= or_no_crossing
-
--- ---- what the answers list: the result, or the refusal
-
-abbrev pub listed_bool : BoolAnswer → Answer Bool
-listed_bool (BoolAnswer.Value b) = result b
-listed_bool (BoolAnswer.Refused r) = refusal r

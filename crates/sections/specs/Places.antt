@@ -1,8 +1,8 @@
 -- Places on a section: `at_length`, a station's `length_along` and `at_closest_to_point`. Assumes nothing.
-use Rattle.std.specs.Prelude.{◌||◌, cond, List, [], ◌∷◌, ℕ, suc, ◌+◌, get_or, Float}
+use Rattle.std.specs.Prelude.{◌||◌, cond, List, [], ◌∷◌, ℕ, suc, ◌+◌, get_or, Float, Ok, Err}
 use Rattle.std.specs.Float.{nan}
 use Rattle.std.specs.Float.Ieee.{lt, eq}
-use Rattle.errors.specs.Answer.{Answer, result, refusal, watched, ◌>>=◌}
+use Rattle.errors.specs.Answer.{Answer, watched, ◌>>=◌}
 use Rattle.points.specs.Numbers.{◌+f◌, ◌-f◌, ◌*f◌, ◌/f◌, f0}
 use Rattle.points.specs.Points.{minus, moved, normalized, watched_point}
 use Rattle.points.specs.declared.Point2.{Point2}
@@ -11,7 +11,6 @@ use Rattle.curve2.specs.Stations.{station, edge_direction, at_vertex}
 use Rattle.queries.specs.Nearest.{nearest_of}
 use Rattle.curve2.specs.declared.CurveStation2.{CurveStation2}
 use Rattle.sections.specs.declared.LengthPair.{LengthPair}
-use Rattle.sections.specs.declared.LengthPairAnswer.{LengthPairAnswer}
 use Rattle.errors.specs.declared.Refusal.TheVariants.{OffCurve}
 
 -- ---- by length
@@ -22,7 +21,7 @@ inside_edge i p q m n l =
     normalized (minus q p) >>= λ d.
     watched ((l -f m) /f (n -f m)) >>= λ f.
     watched_point (moved p d (l -f m)) >>= λ at.
-    result (station at d i f)
+    Ok (station at d i f)
 
 -- "an exact vertex length gives the vertex". The search goes from vertex i, at length m.
 unfoldable pub at_length_from : List Float → Float → Float → ℕ → Float → List Point2 → Answer CurveStation2
@@ -35,7 +34,7 @@ at_length_from ns tol l i m (p ∷ (q ∷ ps)) =
 
 -- 9: "a length along below 0 or above the whole"
 unfoldable pub at_length : List Float → Float → Float → Answer CurveStation2
-at_length ns tol l = cond (lt l f0 || lt (whole_length ns) l) (refusal OffCurve) (at_length_from ns tol l 0 f0 (points_of ns))
+at_length ns tol l = cond (lt l f0 || lt (whole_length ns) l) (Err OffCurve) (at_length_from ns tol l 0 f0 (points_of ns))
 
 -- l[i]
 abbrev pub length_at : List Float → ℕ → Float
@@ -51,19 +50,15 @@ length_along ns i f =
 -- the lengths along of two places
 unfoldable pub lengths_along : List Float → ℕ → Float → ℕ → Float → Answer LengthPair
 unfolding length_along
-lengths_along ns i f j g = length_along ns i f >>= λ l. length_along ns j g >>= λ m. result (record { first = l; second = m })
+lengths_along ns i f j g = length_along ns i f >>= λ l. length_along ns j g >>= λ m. Ok (record { first = l; second = m })
 
 -- ---- by nearness
 
 -- leaf rule "Nearest point": "the station has that edge, its direction, and s held to 0 to 1 as fraction"
 unfoldable pub at_closest : List Float → Point2 → Answer CurveStation2
-at_closest ns p = nearest_of ns p >>= λ n. edge_direction ns n.index >>= λ d. result (station n.at.point d n.index n.at.fraction)
+at_closest ns p = nearest_of ns p >>= λ n. edge_direction ns n.index >>= λ d. Ok (station n.at.point d n.index n.at.fraction)
 
 -- 02 (f): "the lengths along of the section's nearest points to p0 and to p1"
 unfoldable pub closest_lengths : List Float → Point2 → Point2 → Answer LengthPair
 unfolding lengths_along
 closest_lengths ns p q = nearest_of ns p >>= λ a. nearest_of ns q >>= λ b. lengths_along ns a.index a.at.fraction b.index b.at.fraction
-
-abbrev pub listed_length_pair : LengthPairAnswer → Answer LengthPair
-listed_length_pair (LengthPairAnswer.Value l) = result l
-listed_length_pair (LengthPairAnswer.Refused r) = refusal r

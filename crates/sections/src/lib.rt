@@ -3,27 +3,21 @@
 
 pub mod checked;
 
+ghost use Rattle.curve2.specs.Lent.{IsLent};
+ghost use Rattle.errors.specs.Answer.{passed};
 ghost use Rattle.std.specs.Prelude.{◌≡◌, false, ltb};
-ghost use Rattle.errors.specs.Answer.{listed_scalar};
-ghost use Rattle.curve2.specs.Entry.{section_entry, listed_entry};
-ghost use Rattle.curve2.specs.Stations.{last_vertex, listed_station};
-ghost use Rattle.sections.specs.Asked.{finite_point, finite_line, closed_asked, length_asked, front_asked, back_asked, vertex_asked, at_length_asked, length_along_asked, closest_asked, crossing_asked, joined_asked, listed_bool};
-ghost use Rattle.queries.specs.Crossing.{listed_crossing_asked};
+ghost use Rattle.curve2.specs.Entry.{section_entry};
+ghost use Rattle.curve2.specs.Stations.{last_vertex};
+ghost use Rattle.sections.specs.Asked.{closed_asked, length_asked, front_asked, back_asked, vertex_asked, at_length_asked, length_along_asked, closest_asked, crossing_asked, joined_asked};
 
-use curve2::{AlsoBad, Entry, StationAnswer, entering};
-use errors::{Refusal, ScalarAnswer};
+use curve2::checked::Curve2;
+use curve2::{AlsoBad, CurveStation2, entering};
+use errors::{Finite, Refusal};
 use line2::Line2;
 use points::Point2;
-use queries::CrossingAsked;
+use queries::Crossing;
 
 mod lengths;
-
-// Yes or no, or why there is neither.
-#[derive(Clone, Copy)]
-pub enum BoolAnswer {
-    Value(bool),
-    Refused(Refusal),
-}
 
 // The lengths along of two places.
 #[derive(Clone, Copy)]
@@ -32,18 +26,12 @@ pub struct LengthPair {
     pub second: f64,
 }
 
-// Both lengths, or why there are none.
-#[derive(Clone, Copy)]
-pub enum LengthPairAnswer {
-    Value(LengthPair),
-    Refused(Refusal),
-}
-
 // ---- the entry tests
 
 // The entry tests, with a bad number (2) and a place that isn't there (4) among the other arguments.
-fn entered(section: &[f64], tol: f64, number: bool, room: bool) -> Entry
-    ensures { listed_entry result ≡ section_entry section.now tol (record { number = number; tolerance = false; finer = false; room = room }) }
+fn entered(section: &[f64], tol: f64, number: bool, room: bool) -> Result<Curve2<'_>, Refusal>
+    ensures entry { passed result ≡ section_entry section.now tol (record { number = number; tolerance = false; finer = false; room = room }) }
+    ensures lent { IsLent section.now tol result }
 {
     let also = AlsoBad {
         number,
@@ -58,147 +46,103 @@ fn entered(section: &[f64], tol: f64, number: bool, room: bool) -> Entry
 fn has_edge(section: &[f64], index: usize) -> bool
     ensures { result ≡ ltb index (last_vertex section.now) }
 {
-    let count = section.len() / 2;
-    if count == 0 {
-        return false;
-    }
-    index < count - 1
-}
-
-fn is_finite_point(p: Point2) -> bool
-    ensures { result ≡ finite_point p }
-{
-    let x = p.x;
-    let y = p.y;
-    if errors::is_finite(x) {
-        return errors::is_finite(y);
-    }
-    false
-}
-
-// Whether a line's numbers are all finite.
-pub fn is_finite_line(line: Line2) -> bool
-    ensures { result ≡ finite_line line }
-{
-    let origin = line.origin;
-    let d = line.direction;
-    let x = d.x;
-    let y = d.y;
-    if is_finite_point(origin) {
-        return is_finite_point(Point2 { x, y });
-    }
-    false
+    index < (section.len() / 2).saturating_sub(1)
 }
 
 // ---- the section itself
 
 // Whether the section is closed.
-pub fn is_closed(section: &[f64], tol: f64) -> BoolAnswer
-    ensures { listed_bool result ≡ closed_asked section.now tol }
+#[tactic(auto, unfolding(crate::specs::Asked::closed_asked))]
+pub fn is_closed(section: &[f64], tol: f64) -> Result<bool, Refusal>
+    ensures { result ≡ closed_asked section.now tol }
 {
-    match entered(section, tol, false, false) {
-        Entry::Passed => BoolAnswer::Value(curve2::checked::is_closed(section, tol)),
-        Entry::Refused(r) => BoolAnswer::Refused(r),
-    }
+    Ok(entered(section, tol, false, false)?.is_closed())
 }
 
 // The length of the whole.
-pub fn length(section: &[f64], tol: f64) -> ScalarAnswer
-    ensures { listed_scalar result ≡ length_asked section.now tol }
+#[tactic(auto, unfolding(crate::specs::Asked::length_asked))]
+pub fn length(section: &[f64], tol: f64) -> Result<f64, Refusal>
+    ensures { result ≡ length_asked section.now tol }
 {
-    match entered(section, tol, false, false) {
-        Entry::Passed => errors::watch(curve2::checked::whole_length(section)),
-        Entry::Refused(r) => ScalarAnswer::Refused(r),
-    }
+    errors::watch(entered(section, tol, false, false)?.whole_length())
 }
 
 // ---- stations
 
 // The station at the first point.
-pub fn at_front(section: &[f64], tol: f64) -> StationAnswer
-    ensures { listed_station result ≡ front_asked section.now tol }
+#[tactic(auto, unfolding(crate::specs::Asked::front_asked))]
+pub fn at_front(section: &[f64], tol: f64) -> Result<CurveStation2, Refusal>
+    ensures { result ≡ front_asked section.now tol }
 {
-    match entered(section, tol, false, false) {
-        Entry::Passed => curve2::checked::at_front(section, tol),
-        Entry::Refused(r) => StationAnswer::Refused(r),
-    }
+    entered(section, tol, false, false)?.at_front()
 }
 
 // The station at the last point.
-pub fn at_back(section: &[f64], tol: f64) -> StationAnswer
-    ensures { listed_station result ≡ back_asked section.now tol }
+#[tactic(auto, unfolding(crate::specs::Asked::back_asked))]
+pub fn at_back(section: &[f64], tol: f64) -> Result<CurveStation2, Refusal>
+    ensures { result ≡ back_asked section.now tol }
 {
-    match entered(section, tol, false, false) {
-        Entry::Passed => curve2::checked::at_back(section, tol),
-        Entry::Refused(r) => StationAnswer::Refused(r),
-    }
+    entered(section, tol, false, false)?.at_back()
 }
 
 // The station at a vertex: 4 where there is none of that number.
-pub fn at_vertex(section: &[f64], tol: f64, index: usize) -> StationAnswer
-    ensures { listed_station result ≡ vertex_asked section.now tol index }
+#[tactic(auto, unfolding(crate::specs::Asked::vertex_asked))]
+pub fn at_vertex(section: &[f64], tol: f64, index: usize) -> Result<CurveStation2, Refusal>
+    ensures { result ≡ vertex_asked section.now tol index }
 {
     let there = index < section.len() / 2;
-    match entered(section, tol, false, !there) {
-        Entry::Passed => curve2::checked::at_vertex(section, tol, index),
-        Entry::Refused(r) => StationAnswer::Refused(r),
-    }
+    entered(section, tol, false, !there)?.at_vertex(index)
 }
 
 // The station at a length along: 2 where that isn't finite, 9 where it is off the section.
-pub fn at_length(section: &[f64], tol: f64, length: f64) -> StationAnswer
-    ensures { listed_station result ≡ at_length_asked section.now tol length }
+#[tactic(auto, unfolding(crate::specs::Asked::at_length_asked))]
+pub fn at_length(section: &[f64], tol: f64, length: f64) -> Result<CurveStation2, Refusal>
+    ensures { result ≡ at_length_asked section.now tol length }
 {
-    let good = errors::is_finite(length);
-    match entered(section, tol, !good, false) {
-        Entry::Passed => checked::at_length(section, tol, length),
-        Entry::Refused(r) => StationAnswer::Refused(r),
-    }
+    let good = length.all_finite();
+    let curve = entered(section, tol, !good, false)?;
+    checked::at_length(&curve, length)
 }
 
 // The length along of a place: 2 where its fraction isn't finite, 4 where there is no edge of that number.
-pub fn length_along(section: &[f64], tol: f64, index: usize, fraction: f64) -> ScalarAnswer
-    ensures { listed_scalar result ≡ length_along_asked section.now tol index fraction }
+#[tactic(auto, unfolding(crate::specs::Asked::length_along_asked))]
+pub fn length_along(section: &[f64], tol: f64, index: usize, fraction: f64) -> Result<f64, Refusal>
+    ensures { result ≡ length_along_asked section.now tol index fraction }
 {
-    let good = errors::is_finite(fraction);
+    let good = fraction.all_finite();
     let there = has_edge(section, index);
-    match entered(section, tol, !good, !there) {
-        Entry::Passed => checked::length_along(section, index, fraction),
-        Entry::Refused(r) => ScalarAnswer::Refused(r),
-    }
+    let curve = entered(section, tol, !good, !there)?;
+    checked::length_along(&curve, index, fraction)
 }
 
 // The station nearest to a point: 2 where that isn't finite.
-pub fn at_closest_to_point(section: &[f64], tol: f64, p: Point2) -> StationAnswer
-    ensures { listed_station result ≡ closest_asked section.now tol p }
+#[tactic(auto, unfolding(crate::specs::Asked::closest_asked))]
+pub fn at_closest_to_point(section: &[f64], tol: f64, p: Point2) -> Result<CurveStation2, Refusal>
+    ensures { result ≡ closest_asked section.now tol p }
 {
-    let good = is_finite_point(p);
-    match entered(section, tol, !good, false) {
-        Entry::Passed => checked::at_closest_to_point(section, p),
-        Entry::Refused(r) => StationAnswer::Refused(r),
-    }
+    let good = p.all_finite();
+    let curve = entered(section, tol, !good, false)?;
+    checked::at_closest_to_point(&curve, p)
 }
 
 // ---- crossings
 
 // Where a line crosses the section: 2 where the line isn't finite, 8 where it has not exactly two hits.
-pub fn crossing_line(section: &[f64], tol: f64, line: Line2) -> CrossingAsked
-    ensures { listed_crossing_asked result ≡ crossing_asked section.now tol line }
+#[tactic(auto, unfolding(crate::specs::Asked::crossing_asked))]
+pub fn crossing_line(section: &[f64], tol: f64, line: Line2) -> Result<Crossing, Refusal>
+    ensures { result ≡ crossing_asked section.now tol line }
 {
-    let good = is_finite_line(line);
-    match entered(section, tol, !good, false) {
-        Entry::Passed => queries::asked(queries::checked::crossing_line(section, line)),
-        Entry::Refused(r) => CrossingAsked::Refused(r),
-    }
+    let good = line.all_finite();
+    let curve = entered(section, tol, !good, false)?;
+    queries::asked(queries::checked::crossing_line(&curve, line))
 }
 
 // The same, where hits nearer than 1e-8 to the last kept one, and on a neighbouring edge, count as one with it.
-pub fn joined_crossing(section: &[f64], tol: f64, line: Line2) -> CrossingAsked
-    ensures { listed_crossing_asked result ≡ joined_asked section.now tol line }
+#[tactic(auto, unfolding(crate::specs::Asked::joined_asked))]
+pub fn joined_crossing(section: &[f64], tol: f64, line: Line2) -> Result<Crossing, Refusal>
+    ensures { result ≡ joined_asked section.now tol line }
 {
-    let good = is_finite_line(line);
-    match entered(section, tol, !good, false) {
-        Entry::Passed => queries::asked(queries::checked::joined_crossing(section, tol, line)),
-        Entry::Refused(r) => CrossingAsked::Refused(r),
-    }
+    let good = line.all_finite();
+    let curve = entered(section, tol, !good, false)?;
+    queries::asked(queries::checked::joined_crossing(&curve, line))
 }

@@ -8,10 +8,9 @@ use native.Mathlib.Omega.{arith}
 use borrow.Author.Tests.{eqb-true, not-false, ltb-false}
 use lib.Dec.{eqb, ltb}
 use lib.ListN.{length, drop}
-use Rattle.errors.specs.Answer.{result, refusal}
+use Rattle.std.specs.Prelude.{Ok, Err}
 use Rattle.errors.specs.declared.Refusal.{Refusal}
 use Rattle.errors.specs.declared.Refusal.TheVariants.{ByteCount, NoRoom}
-use Rattle.curve2.specs.declared.Entry.{Entry}
 use Rattle.curve2.proofs.Laws.{none_bad, or_left}
 use Rattle.shuffle.specs.Shuffle.{place, bad_bytes, transposed, shuffled, unshuffled, bytes_entry, output_after, Rearranged}
 use Rattle.shuffle.specs.Code.{standing, Bounded, Distinct, Moved}
@@ -24,7 +23,7 @@ use Rattle.shuffle.proofs.Laws.{shuffled-length, unshuffled-length}
 abbrev tests : ℕ → ℕ → List (Refusal × Bool)
 tests count room = (ByteCount, bad_bytes count) ∷ (NoRoom, ltb room count) ∷ []
 
-module _ (count room : ℕ) (passed : bytes_entry count room ≡ result tt) where
+module _ (count room : ℕ) (passed : bytes_entry count room ≡ Ok tt) where
   pub whole_numbers : count % 8 ≡ 0
   unfolding bytes_entry
   whole_numbers = eqb-true (count % 8) 0 (not-false (eqb (count % 8) 0) (or_left _ _ (none_bad (tests count room) passed).0))
@@ -35,13 +34,7 @@ module _ (count room : ℕ) (passed : bytes_entry count room ≡ result tt) wher
 
 -- ---- where bytes stand
 
-pub bounded_more : (f : ℕ → ℕ) (n room : ℕ) → 8 * n ≤ room → Bounded f (8 * n) (8 * n) → Bounded f (8 * n) room
-bounded_more f n room h w p l = omega (arith, w p l)
-
 -- the bytes of a number together
-pub together_bounded : (n : ℕ) → Bounded (standing 8 1) (8 * n) (8 * n)
-together_bounded n p h = omega arith
-
 pub together_distinct : (n : ℕ) → Distinct (standing 8 1) (8 * n)
 together_distinct n p q h l e = omega arith
 
@@ -58,15 +51,15 @@ sorted_distinct n p q h l e = place_distinct 8 n p q (omega arith) (omega arith)
 -- ---- what is returned and left
 
 module _ (f : List ℕ → List ℕ) (bs old : List ℕ) where
-  pub rearranged_passed : (new : List ℕ) → result tt ≡ bytes_entry (length bs) (length old) → new ≡ f bs ++ drop (length (f bs)) old → Rearranged f bs old new Entry.Passed
+  pub rearranged_passed : (new : List ℕ) → Ok tt ≡ bytes_entry (length bs) (length old) → new ≡ f bs ++ drop (length (f bs)) old → Rearranged f bs old new (Ok tt)
   unfolding output_after
   rearranged_passed new passed e = record { listed = passed; output = rw (← passed) e }
 
-  pub rearranged_refused : (r : Refusal) → refusal r ≡ bytes_entry (length bs) (length old) → Rearranged f bs old old (Entry.Refused r)
+  pub rearranged_refused : (r : Refusal) → Err r ≡ bytes_entry (length bs) (length old) → Rearranged f bs old old (Err r)
   unfolding output_after
   rearranged_refused r e = record { listed = e; output = rw (← e) }
 
-module _ (bs old new : List ℕ) (passed : bytes_entry (length bs) (length old) ≡ result tt) (kept : length new ≡ length old) where
+module _ (bs old new : List ℕ) (passed : bytes_entry (length bs) (length old) ≡ Ok tt) (kept : length new ≡ length old) where
   abbrev n : ℕ
   n = length bs / 8
 
@@ -96,8 +89,8 @@ module _ (bs old new : List ℕ) (passed : bytes_entry (length bs) (length old) 
       (λ q h. sorted-place n (place n 8 q) ∙ place-back n 8 q h)
       (λ q h. omega arith)
 
-  pub shuffled-moved : Moved (standing 8 1) (standing 1 n) (8 * n) bs old new → new ≡ shuffled bs ++ drop (length (shuffled bs)) old
-  shuffled-moved m =
+  pub shuffled_moved : Moved (standing 8 1) (standing 1 n) (8 * n) bs old new → new ≡ shuffled bs ++ drop (length (shuffled bs)) old
+  shuffled_moved m =
       let e : length (shuffled bs) ≡ 8 * n = omega (arith, whole, shuffled-length bs whole) in
       rw e (shuffled-table m)
 
@@ -121,7 +114,7 @@ module _ (bs old new : List ℕ) (passed : bytes_entry (length bs) (length old) 
       (λ q h. omega arith)
       (λ q h. sorted-place n q)
 
-  pub unshuffled-moved : Moved (standing 1 n) (standing 8 1) (8 * n) bs old new → new ≡ unshuffled bs ++ drop (length (unshuffled bs)) old
-  unshuffled-moved m =
+  pub unshuffled_moved : Moved (standing 1 n) (standing 8 1) (8 * n) bs old new → new ≡ unshuffled bs ++ drop (length (unshuffled bs)) old
+  unshuffled_moved m =
       let e : length (unshuffled bs) ≡ n * 8 = omega (arith, whole, unshuffled-length bs whole) in
       rw e (unshuffled-table (rw (mul_comm 8 n) at m))

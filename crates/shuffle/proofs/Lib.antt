@@ -6,3 +6,4 @@ pub mod TurnLaws
 pub mod WordLaws
 pub mod Laws
 pub mod EntryLaws
+pub mod LayoutLaws

@@ -2,13 +2,13 @@
 use mathlib.Core.Path.{◌≡◌, refl, ◌∙◌, sym}
 use mathlib.Core.Logic.{◌⊎◌, inl, inr, ⊎_elim}
 use mathlib.Core.List.{List, ◌++◌}
-use Prim.Native.Nat.{ℕ, zero, suc, ◌+◌, ◌-◌, ◌*◌, ◌/◌, ◌%◌, ◌≤◌, ◌<◌}
+use Prim.Native.Nat.{ℕ, zero, suc, ◌+◌, ◌-◌, ◌≤◌, ◌<◌}
 use native.Mathlib.Nat.{eq-zero-or-pos}
 use native.Mathlib.Omega.{arith}
 use lib.ListN.{length, drop, get_or, set, length-append, length-drop, get_or-append}
 use lib.Seq.{get_or-set_same, get_or-set_other, get_or-append-add, get_or-drop, ext_get_or}
 use Rattle.shuffle.specs.Shuffle.{tabulated}
-use Rattle.shuffle.specs.Code.{standing, stepping, shifted, Distinct, Bounded, Moved}
+use Rattle.shuffle.specs.Code.{Distinct, Bounded, Moved}
 
 -- ---- a table
 
@@ -30,9 +30,6 @@ pub order : (p i : ℕ) → (i ≤ p) ⊎ (p < i)
 order p i = ⊎_elim (λ e. inl (omega arith)) (λ e. inr (omega arith)) (eq-zero-or-pos (i - p))
 
 module _ (source target : ℕ → ℕ) (bs old : List ℕ) where
-  pub moved_none : Moved source target 0 bs old old
-  moved_none = record { bytes = λ p h. absurd (omega arith); others = λ q h. refl }
-
   -- one more
   module _ (i : ℕ) (mid : List ℕ) (m : Moved source target i bs old mid) (room : target i < length mid) (apart : (p : ℕ) → p < i → target p ≡ target i → ⊥) where
     one_byte : (p : ℕ) → p < i + 1 → get_or (set mid (target i) (get_or bs (source i) 0)) (target p) 0 ≡ get_or bs (source p) 0
@@ -111,47 +108,3 @@ module _ (source target source₂ target₂ : ℕ → ℕ) (count : ℕ) (bs bs�
         bytes = λ p h. (rw (same_target p h) at (m.bytes (order₂ p) (inside p h))) ∙ same_byte p h;
         others = λ q h. m.others q (λ p l e. h (order₂ p) (inside p l) (e ∙ (rw (twice p l) at (same_target (order₂ p) (inside p l)))));
       }
-
--- ---- a number's eight bytes
-
-module _ (next step k : ℕ) where
-  pub standing-number : (i : ℕ) → i < 8 → standing next step (8 * k + i) ≡ stepping (k * next) step i
-  standing-number i h =
-      let a : (8 * k + i) / 8 ≡ k = omega arith in
-      let b : (8 * k + i) % 8 ≡ i = omega arith in
-      rw (a, b)
-
-  module _ (n : ℕ) (fits : k < n) where
-    pub number_bounded : (room : ℕ) → Bounded (standing next step) (8 * n) room → Bounded (stepping (k * next) step) 8 room
-    number_bounded room w i h = rw (standing-number i h) at (w (8 * k + i) (omega arith))
-
-    pub number_distinct : Distinct (standing next step) (8 * n) → Distinct (stepping (k * next) step) 8
-    number_distinct a p q h l e =
-        let z : 8 * k + p ≡ 8 * k + q = a (8 * k + p) (8 * k + q) (omega arith) (omega arith) (standing-number p h ∙ e ∙ sym (standing-number q l)) in
-        omega arith
-
--- the numbers from `first` on, up to k, and one more
-module _ (from_next from_step to-next to_step n first : ℕ) (apart : Distinct (standing to-next to_step) (8 * n)) (bs old mid new : List ℕ) where
-  shifted_distinct : (count : ℕ) → 8 * first + count ≤ 8 * n → Distinct (shifted (8 * first) (standing to-next to_step)) count
-  shifted_distinct count room p q h l e = let z = apart (8 * first + p) (8 * first + q) (omega arith) (omega arith) e in omega arith
-
-  pub moved-number : (k : ℕ) → first ≤ k → k < n
-      → Moved (shifted (8 * first) (standing from_next from_step)) (shifted (8 * first) (standing to-next to_step)) (8 * (k - first)) bs old mid
-      → Moved (stepping (k * from_next) from_step) (stepping (k * to-next) to_step) 8 bs mid new
-      → Moved (shifted (8 * first) (standing from_next from_step)) (shifted (8 * first) (standing to-next to_step)) (8 * (k + 1 - first)) bs old new
-  moved-number k a h m one =
-      let e : 8 * (k + 1 - first) ≡ 8 * (k - first) + 8 = omega arith in
-      rw e (moved_more _ _ bs old (8 * (k - first)) 8 mid new _ _ (at-number from_next from_step) (at-number to-next to_step) (shifted_distinct (8 * (k - first) + 8) (omega arith)) m one)
-    where
-      at-number : (next step j : ℕ) → j < 8 → shifted (8 * first) (standing next step) (8 * (k - first) + j) ≡ stepping (k * next) step j
-      at-number next step j l =
-          let f : 8 * first + (8 * (k - first) + j) ≡ 8 * k + j = omega arith in
-          rw f (standing-number next step k j l)
-
-  -- the first ones, then the rest
-  pub moved_rest : first ≤ n → Moved (standing from_next from_step) (standing to-next to_step) (8 * first) bs old mid
-      → Moved (shifted (8 * first) (standing from_next from_step)) (shifted (8 * first) (standing to-next to_step)) (8 * (n - first)) bs mid new
-      → Moved (standing from_next from_step) (standing to-next to_step) (8 * n) bs old new
-  moved_rest h m rest =
-      let e : 8 * n ≡ 8 * first + 8 * (n - first) = omega arith in
-      rw e (moved_more _ _ bs old (8 * first) (8 * (n - first)) mid new _ _ (λ j l. refl) (λ j l. refl) (λ p q k l. apart p q (omega arith) (omega arith)) m rest)

@@ -1,98 +1,47 @@
 -- Laws of words read from bytes and written as bytes. Assumes nothing.
 use mathlib.Core.Path.{◌≡◌, refl, ◌∙◌, sym, ap}
 use mathlib.Core.Logic.{⊎_elim}
-use mathlib.Core.List.{List, [], ◌∷◌}
-use Prim.Native.Nat.{ℕ, ◌+◌, ◌-◌, ◌*◌, ◌/◌, ◌%◌, ◌^◌, ◌≤◌, ◌<◌}
-use native.Mathlib.Nat.{mod-eq_of_lt, add_comm, mul-le-mul_right}
+use mathlib.Core.List.{List}
+use Prim.Native.Nat.{ℕ, ◌+◌, ◌-◌, ◌*◌, ◌/◌, ◌%◌, ◌≤◌, ◌<◌}
 use native.Mathlib.Omega.{arith}
-use lib.Pow.{pow-add, shr-shr, high, low}
-use lib.ListN.{length, get_or, set}
+use lib.ListN.{length, get_or, set, take, drop, length-take, length-drop}
+use lib.Seq.{get_or-take, get_or-drop}
+use Rattle.std.specs.Int.{w64, to_le_bytes, from_le_bytes}
+use Rattle.std.proofs.lemmas.List.{get_or_past}
+use Rattle.std.proofs.lemmas.Nat.{le_bytes_8}
 use Rattle.shuffle.specs.Shuffle.{place, tabulated}
 use Rattle.shuffle.specs.Words.{byte_of, turned}
 use Rattle.shuffle.specs.Code.{standing, word_place, bytes_of, Distinct, Holds, HoldsEight, Moved}
-use Rattle.shuffle.proofs.Places.{place-bound, place_column, place-row, place-back}
+use Rattle.shuffle.proofs.Places.{place_column, place-row, place-back}
 use Rattle.shuffle.proofs.MovedLaws.{order, tabulated-at, moved_one, moved_more, moved_from}
 use Rattle.shuffle.proofs.EntryLaws.{sorted_distinct}
-use Rattle.shuffle.proofs.ByteLaws.{byte_mod, first_byte}
+use Rattle.shuffle.proofs.ByteLaws.{first_byte}
 use Rattle.shuffle.proofs.TurnLaws.{eight, turned_byte}
 
 -- ---- a word read
 
-pub holds_one : (bs : List ℕ) (at : ℕ) → get_or bs at 0 < 256 → Holds 1 bs at (get_or bs at 0)
-holds_one bs at l =
-    record {
-      bytes = λ i h.
-          let e : i ≡ 0 = omega arith in
-          let f : at + 0 ≡ at = omega arith in
-          rw (e, f) (first_byte (get_or bs at 0) ∙ mod-eq_of_lt l);
-      bound = l;
-    }
+-- its bytes as std writes them
+le_byte : (w i : ℕ) → i < 8 → get_or (to_le_bytes w64 w) i 0 ≡ byte_of i w
+le_byte w = eight (λ (i : ℕ). get_or (to_le_bytes w64 w) i 0 ≡ byte_of i w) (sym (first_byte w)) refl refl refl refl refl refl refl
 
-module _ (n x y : ℕ) (h : x < 2 ^ (8 * n)) where
-  low_byte : (i : ℕ) → i < n → byte_of i (x + y * 2 ^ (8 * n)) ≡ byte_of i x
-  low_byte i l =
-      sym (byte_mod n i (x + y * 2 ^ (8 * n)) l) ∙ ap (byte_of i) (rw (add_comm x (y * 2 ^ (8 * n))) (low y (8 * n) h))
-
-  high_byte : (i : ℕ) → byte_of (n + i) (x + y * 2 ^ (8 * n)) ≡ byte_of i y
-  high_byte i =
-      let e : 8 * (n + i) ≡ 8 * n + 8 * i = omega arith in
-      rw (e, ← (shr-shr (x + y * 2 ^ (8 * n)) (8 * n) (8 * i)), add_comm x (y * 2 ^ (8 * n)), high y (8 * n) h)
-
--- two of a width make one of twice the width
-pub holds_join : (n : ℕ) (bs : List ℕ) (at x y : ℕ) → Holds n bs at x → Holds n bs (at + n) y → Holds (n + n) bs at (x + y * 2 ^ (8 * n))
-holds_join n bs at x y a b =
-    record {
-      bytes = λ i h. ⊎_elim (λ g. later (i - n) i (omega arith) (omega arith)) (λ l. low_byte n x y a.bound i l ∙ a.bytes i l) (order i n);
-      bound =
-          let e : 8 * (n + n) ≡ 8 * n + 8 * n = omega arith in
-          rw (e, pow-add 2 (8 * n) (8 * n), add_comm x (y * 2 ^ (8 * n))) (place-bound (2 ^ (8 * n)) (2 ^ (8 * n)) y x b.bound a.bound);
-    }
-  where
-    later : (j i : ℕ) → j < n → i ≡ n + j → byte_of i (x + y * 2 ^ (8 * n)) ≡ get_or bs (at + i) 0
-    later j i h e =
-        let f : at + (n + j) ≡ at + n + j = omega arith in
-        rw (e, f) (high_byte n x y a.bound j ∙ b.bytes j h)
-
--- eight words read
-module _ (bs : List ℕ) (at step w0 w1 w2 w3 w4 w5 w6 w7 : ℕ) where
-  abbrev words : List ℕ
-  words = w0 ∷ (w1 ∷ (w2 ∷ (w3 ∷ (w4 ∷ (w5 ∷ (w6 ∷ (w7 ∷ [])))))))
-
-  Read : ℕ → Type 0
-  Read j = (i : ℕ) → i < 8 → byte_of i (get_or words j 0) ≡ get_or bs (at + j * step + i) 0
-
-  moved_to : (a b w : ℕ) → a ≡ b → Holds 8 bs a w → (i : ℕ) → i < 8 → byte_of i w ≡ get_or bs (b + i) 0
-  moved_to a b w e h = rw e at h.bytes
-
-  pub eight_words : Holds 8 bs at w0 → Holds 8 bs (at + step) w1 → Holds 8 bs (at + step + step) w2 → Holds 8 bs (at + step + step + step) w3 → Holds 8 bs (at + step + step + step + step) w4 → Holds 8 bs (at + step + step + step + step + step) w5 → Holds 8 bs (at + step + step + step + step + step + step) w6 → Holds 8 bs (at + step + step + step + step + step + step + step) w7 → HoldsEight bs at step words
-  unfolding Read
-  eight_words h0 h1 h2 h3 h4 h5 h6 h7 j i =
-      eight_cases j
-    where
-      all : (j : ℕ) → j < 8 → Read j
-      all = eight Read (moved_to at (at + 0 * step) w0 (omega arith) h0) (moved_to (at + step) (at + 1 * step) w1 (omega arith) h1) (moved_to (at + step + step) (at + 2 * step) w2 (omega arith) h2) (moved_to (at + step + step + step) (at + 3 * step) w3 (omega arith) h3) (moved_to (at + step + step + step + step) (at + 4 * step) w4 (omega arith) h4) (moved_to (at + step + step + step + step + step) (at + 5 * step) w5 (omega arith) h5) (moved_to (at + step + step + step + step + step + step) (at + 6 * step) w6 (omega arith) h6) (moved_to (at + step + step + step + step + step + step + step) (at + 7 * step) w7 (omega arith) h7)
-
-      eight_cases : (j : ℕ) → j < 8 → i < 8 → byte_of i (get_or words j 0) ≡ get_or bs (at + j * step + i) 0
-      eight_cases j h l = all j h i l
+pub word_holds : (bs part : List ℕ) (at w : ℕ) → at + 8 ≤ length bs → ((i : ℕ) → get_or bs i 0 < 256) → part ≡ take (at + 8 - at) (drop at bs) → w ≡ from_le_bytes w64 part → Holds bs at w
+word_holds bs part at w fits small cut is i h =
+    let eight_long : at + 8 - at ≡ 8 = omega arith in
+    let whole : part ≡ take 8 (drop at bs) = rw eight_long at cut in
+    let long : length part ≡ 8 = rw whole (simp (length-take, length-drop) (omega arith)) in
+    let each : (j : ℕ) → j < 8 → get_or part j 0 ≡ get_or bs (at + j) 0 = λ j l. rw (whole, get_or-take, get_or-drop) in
+    let below : (j : ℕ) → get_or part j 0 < 256 = λ j. ⊎_elim (λ g. rw (get_or_past part j 0 (omega (arith, long))) (omega arith)) (λ l. rw (each j l) (small (at + j))) (order j 8) in
+    sym (le_byte w i h) ∙ ap (λ (b : List ℕ). get_or b i 0) (le_bytes_8 part w long below is) ∙ each i h
 
 -- ---- a word written
 
-module _ (word at : ℕ) (old mid : List ℕ) (i rest : ℕ) (h : i < 8) (left : rest ≡ word / 2 ^ (8 * i)) where
-  pub put_rest : rest / 256 ≡ word / 2 ^ (8 * (i + 1))
-  put_rest =
-      let e : 8 * (i + 1) ≡ 8 * i + 8 = omega arith in
-      rw (left, e) (shr-shr word (8 * i) 8)
-
-  pub put_byte : Moved (λ j. j) (λ j. at + j) i (tabulated 8 (λ j. byte_of j word)) old mid → at + i < length mid
-      → Moved (λ j. j) (λ j. at + j) (i + 1) (tabulated 8 (λ j. byte_of j word)) old (set mid (at + i) (rest % 256))
-  put_byte m room =
-      let e : rest % 256 ≡ get_or (tabulated 8 (λ j. byte_of j word)) i 0 = rw (tabulated-at 8 (λ j. byte_of j word) i h, left) in
-      rw e (moved_one (λ j. j) (λ j. at + j) (tabulated 8 (λ j. byte_of j word)) old i mid m room (λ p l f. omega arith))
+pub put_byte : (w at i : ℕ) (old mid : List ℕ) → i < 8 → Moved (λ j. j) (λ j. at + j) i (tabulated 8 (λ j. byte_of j w)) old mid → at + i < length mid
+    → Moved (λ j. j) (λ j. at + j) (i + 1) (tabulated 8 (λ j. byte_of j w)) old (set mid (at + i) (get_or (to_le_bytes w64 w) i 0))
+put_byte w at i old mid h m room =
+    let e : get_or (to_le_bytes w64 w) i 0 ≡ get_or (tabulated 8 (λ j. byte_of j w)) i 0 = le_byte w i h ∙ sym (tabulated-at 8 (λ j. byte_of j w) i h) in
+    rw e (moved_one (λ j. j) (λ j. at + j) (tabulated 8 (λ j. byte_of j w)) old i mid m room (λ p l f. omega arith))
 
 -- ---- eight words written
-
-pub at_most : (j step : ℕ) → j < 8 → j * step ≤ 7 * step
-at_most j step h = mul-le-mul_right {m = j} {n = 7} step (omega arith)
 
 pub bytes-at : (ws : List ℕ) (p : ℕ) → p < 64 → get_or (bytes_of ws) p 0 ≡ byte_of (p % 8) (get_or ws (p / 8) 0)
 unfolding bytes_of

@@ -1,20 +1,25 @@
 -- The code's own steps: where the bytes of numbers stand, and which were moved. No entry point's promise rests on it. Assumes nothing.
-use Rattle.std.specs.Prelude.{◌≡◌, List, ℕ, ◌+◌, ◌*◌, ◌/◌, ◌%◌, ◌^◌, ◌<◌, get_or}
+use Rattle.std.specs.Prelude.{◌≡◌, List, ℕ, ◌+◌, ◌*◌, ◌/◌, ◌%◌, ◌^◌, ◌<◌, ◌⊎◌, get_or}
 use Rattle.std.specs.Int.Bits.{bit_and, bit_xor}
 use Rattle.shuffle.specs.Shuffle.{tabulated}
 use Rattle.shuffle.specs.Words.{byte_of}
+use Rattle.shuffle.specs.declared.moving.Layout.{Layout}
 
 -- Byte i of number k stands at k × next + i × step; p counts the bytes number by number.
 abbrev pub standing : ℕ → ℕ → ℕ → ℕ
 standing next step p = p / 8 * next + p % 8 * step
 
--- Eight bytes from `first` on, each `step` behind the one before.
-abbrev pub stepping : ℕ → ℕ → ℕ → ℕ
-stepping first step i = first + i * step
+-- the bytes of each number together
+abbrev pub together : Layout
+together = record { next = 8; step = 1 }
 
--- the places from the one numbered `first` on
-abbrev pub shifted : ℕ → (ℕ → ℕ) → ℕ → ℕ
-shifted first f p = f (first + p)
+-- like bytes of n numbers together
+abbrev pub sorted : ℕ → Layout
+sorted n = record { next = 1; step = n }
+
+-- from one of the two to the other
+abbrev pub Opposite : ℕ → Layout → Layout → Type 0
+Opposite n from to = ((from ≡ together) × (to ≡ sorted n)) ⊎ ((from ≡ sorted n) × (to ≡ together))
 
 -- the first `count` places are below `room`
 abbrev pub Bounded : (ℕ → ℕ) → ℕ → ℕ → Type 0
@@ -46,10 +51,9 @@ upper s m a b = bit_xor b (difference s m a b)
 unfoldable pub bytes_of : List ℕ → List ℕ
 bytes_of ws = tabulated 64 (λ p. byte_of (p % 8) (get_or ws (p / 8) 0))
 
--- the word r of n bytes from a place on, least significant first
-pub record Holds (n : ℕ) (bs : List ℕ) (at r : ℕ) : Type 0 where
-  pub bytes : (i : ℕ) → i < n → byte_of i r ≡ get_or bs (at + i) 0
-  pub bound : r < 2 ^ (8 * n)
+-- the word r of eight bytes from a place on, least significant first
+abbrev pub Holds : List ℕ → ℕ → ℕ → Type 0
+Holds bs at r = (i : ℕ) → i < 8 → byte_of i r ≡ get_or bs (at + i) 0
 
 -- eight words from a place on, each `step` behind the one before
 abbrev pub HoldsEight : List ℕ → ℕ → ℕ → List ℕ → Type 0

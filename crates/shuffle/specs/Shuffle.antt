@@ -1,9 +1,8 @@
 -- 02 (h): the bytes of stored numbers, sorted by their place in the number, and back. A byte is a number below 256. Assumes nothing.
-use Rattle.std.specs.Prelude.{◌≡◌, Bool, not, ◌||◌, List, [], ◌∷◌, ◌++◌, ℕ, zero, suc, ◌+◌, ◌*◌, ◌/◌, ◌%◌, eqb, ltb, length, drop, get_or}
-use Rattle.errors.specs.Answer.{Answer, result, refusal}
+use Rattle.std.specs.Prelude.{◌≡◌, Bool, not, ◌||◌, List, [], ◌∷◌, ◌++◌, ℕ, zero, suc, ◌+◌, ◌*◌, ◌/◌, ◌%◌, eqb, ltb, length, drop, get_or, Ok, Err}
+use Rattle.errors.specs.Answer.{Answer}
 use Rattle.errors.specs.declared.Refusal.TheVariants.{ByteCount, NoRoom}
-use Rattle.curve2.specs.Entry.{tested, listed_entry}
-use Rattle.curve2.specs.declared.Entry.{Entry}
+use Rattle.curve2.specs.Entry.{tested}
 
 -- ---- where each byte goes
 
@@ -48,10 +47,10 @@ bytes_entry n room = tested ((ByteCount, bad_bytes n) ∷ (NoRoom, ltb room n) �
 
 -- the bytes from the output's start on, and what stands behind them stays; "both leave the output alone"
 unfoldable pub output_after : Answer (Unit {0}) → List ℕ → List ℕ → List ℕ
-output_after (result passed) bs old = bs ++ drop (length bs) old
-output_after (refusal r) bs old = old
+output_after (Ok passed) bs old = bs ++ drop (length bs) old
+output_after (Err r) bs old = old
 
 -- Both together: the answer r of a call that makes f of the input, and the output before and after it.
-pub record Rearranged (f : List ℕ → List ℕ) (bs old new : List ℕ) (r : Entry) : Type 0 where
-  pub listed : listed_entry r ≡ bytes_entry (length bs) (length old)
+pub record Rearranged (f : List ℕ → List ℕ) (bs old new : List ℕ) (r : Answer (Unit {0})) : Type 0 where
+  pub listed : r ≡ bytes_entry (length bs) (length old)
   pub output : new ≡ output_after (bytes_entry (length bs) (length old)) (f bs) old

@@ -1,8 +1,8 @@
 -- The sums done by hand that are marked P: one row each. The one claim for all of them stands in proofs/Rows. Assumes nothing.
-use Rattle.std.specs.Prelude.{◌≡◌, Bool, true, false, List, [], ◌∷◌, ℕ, Float}
+use Rattle.std.specs.Prelude.{◌≡◌, Bool, true, false, List, [], ◌∷◌, ℕ, Float, Ok, Err}
 use Rattle.std.specs.Float.{binary64}
 use Rattle.std.specs.Float.Ieee.{of_bits, units, neg}
-use Rattle.errors.specs.Answer.{Answer, result, refusal}
+use Rattle.errors.specs.Answer.{Answer}
 use Rattle.root.specs.Sqrt.{root_asked}
 use Rattle.points.specs.Numbers.{◌-f◌, f0, f½, f1}
 use Rattle.points.specs.declared.Vector2.{Vector2}
@@ -167,17 +167,17 @@ narrower = of_bits binary64 0x3feff80000000000
 
 -- root of 25; of 2: "5; hexadecimal bits 3FF6A09E667F3BCD"
 unfoldable pub P1 : Row
-P1 = row (root_asked f25 ∷ root_asked f2 ∷ []) (result f5 ∷ result (of_bits binary64 0x3FF6_A09E_667F_3BCD) ∷ [])
+P1 = row (root_asked f25 ∷ root_asked f2 ∷ []) (Ok f5 ∷ Ok (of_bits binary64 0x3FF6_A09E_667F_3BCD) ∷ [])
 
 -- clean (0,0) (0.5,0) (1,0) (1.5,0), tolerance 0.5, unforced: "(0,0) (1,0)"
 unfoldable pub P2 : Row
 unfolding four
-P2 = row (cleaned four f½ false 10) (result (point f0 f0 ∷ point f1 f0 ∷ []))
+P2 = row (cleaned four f½ false 10) (Ok (point f0 f0 ∷ point f1 f0 ∷ []))
 
 -- the first two of these: "5"
 unfoldable pub P3 : Row
 unfolding two
-P3 = row (cleaned two f½ false 6) (refusal TooFewKept)
+P3 = row (cleaned two f½ false 6) (Err TooFewKept)
 
 -- R at length 9; 20; -0.5: "(8,1) edge 1 fraction 0.5; edge 3 fraction 1; 9". At 20 R is closed, so the direction is that of its first and last edge together.
 unfoldable pub P4 : Row
@@ -185,12 +185,12 @@ unfolding R vector
 P4 =
     row
     (at_length_asked R f0·001 f9 ∷ at_length_asked R f0·001 f20 ∷ at_length_asked R f0·001 (neg f½) ∷ [])
-    (result (station (point f8 f1) (vector f0 f1) 1 f½) ∷ result (station (point f0 f0) (vector (of_bits binary64 0x3fe6a09e667f3bcc) (of_bits binary64 0xbfe6a09e667f3bcc)) 3 f1) ∷ refusal OffCurve ∷ [])
+    (Ok (station (point f8 f1) (vector f0 f1) 1 f½) ∷ Ok (station (point f0 f0) (vector (of_bits binary64 0x3fe6a09e667f3bcc) (of_bits binary64 0xbfe6a09e667f3bcc)) 3 f1) ∷ Err OffCurve ∷ [])
 
 -- R, line from (4,1) along (0,1): "(4,0) to (4,2)"; 02 (a): edges 0 and 2
 unfoldable pub P5 : Row
 unfolding R line crossing
-P5 = row (crossing_asked R f0·001 (line f4 f1 f0 f1)) (result (crossing f4 f0 f0 f2 0 2))
+P5 = row (crossing_asked R f0·001 (line f4 f1 f0 f1)) (Ok (crossing f4 f0 f0 f2 0 2))
 
 -- R, from (4,1) along (4,1): "8; joined: (0,0) to (8,2)"; 02 (a): edges 0 and 1, those of the kept hits
 unfoldable pub P6 : Row
@@ -198,7 +198,7 @@ unfolding R line crossing
 P6 =
     row
     (crossing_asked R f0·001 (line f4 f1 f4 f1) ∷ joined_asked R f0·001 (line f4 f1 f4 f1) ∷ [])
-    (refusal NoCrossing ∷ result (crossing f0 f0 f8 f2 0 1) ∷ [])
+    (Err NoCrossing ∷ Ok (crossing f0 f0 f8 f2 0 1) ∷ [])
 
 -- the circle of P5's crossing after at most n halvings: the loop's own test ends it before, or it is made n times
 unfoldable pub halved_times : ℕ → Answer Inscribed
@@ -212,12 +212,12 @@ unfolding R line crossing halved_times upright
 P7 =
     row {A = Answer CircleOnLine × List (Answer Inscribed)}
     (try_asked R f0·001 f0·01 (line f4 f1 f0 f1), halved_times 11 ∷ halved_times 10 ∷ [])
-    (result (record { circle = upright f4 high narrow; edges = record { first = 0; second = 2 } }), result (upright f4 high narrow) ∷ result (upright f4 higher narrower) ∷ [])
+    (Ok (record { circle = upright f4 high narrow; edges = record { first = 0; second = 2 } }), Ok (upright f4 high narrow) ∷ Ok (upright f4 higher narrower) ∷ [])
 
 -- radii 1, 3, 3, 2: "thickest at 2"
 unfoldable pub P8 : Row
 unfolding circle
-P8 = row (tmax_asked (all_numbers (circle f1 f1 ∷ circle f2 f3 ∷ circle f4 f3 ∷ circle f5 f2 ∷ [])) 4) (result 2)
+P8 = row (tmax_asked (all_numbers (circle f1 f1 ∷ circle f2 f3 ∷ circle f4 f3 ∷ circle f5 f2 ∷ [])) 4) (Ok 2)
 
 -- two circles, contact direction (0,2): Lower (1,0); Upper (-1,0): "swapped (product is -0); not"
 unfoldable pub P9 : Row
@@ -236,7 +236,7 @@ unfolding edge_of_u numbered fit_ran upright circle
 P11 =
     row
     (numbered (fit_of (edge_of_u true) 1))
-    (0, fit_ran (ended (result (point f0 high))) 3 1 (upright f2 high narrow ∷ circle f4 f1 ∷ circle f5 f1 ∷ []))
+    (0, fit_ran (ended (Ok (point f0 high))) 3 1 (upright f2 high narrow ∷ circle f4 f1 ∷ circle f5 f1 ∷ []))
 
 -- "P11 at the back; P11 with limit 0": "20; 14, two circles"
 unfoldable pub P12 : Row
@@ -244,7 +244,7 @@ unfolding edge_of_u numbered fit_ran circle unused
 P12 =
     row
     (numbered (fit_of (edge_of_u false) 1) ∷ numbered (fit_of (edge_of_u true) 0) ∷ [])
-    ((20, fit_ran (ended (refusal GapMissed)) 2 0 (circle f4 f1 ∷ circle f5 f1 ∷ unused ∷ [])) ∷ (14, fit_ran spent 2 0 (circle f4 f1 ∷ circle f5 f1 ∷ unused ∷ [])) ∷ [])
+    ((20, fit_ran (ended (Err GapMissed)) 2 0 (circle f4 f1 ∷ circle f5 f1 ∷ unused ∷ [])) ∷ (14, fit_ran spent 2 0 (circle f4 f1 ∷ circle f5 f1 ∷ unused ∷ [])) ∷ [])
 
 unfoldable pub table : List Row
 unfolding P1 P2 P3 P4 P5 P6 P7 P8 P9 P10 P11 P12

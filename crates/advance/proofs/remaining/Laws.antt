@@ -4,9 +4,9 @@ use mathlib.Core.List.{List}
 use Prim.Native.Nat.{ℕ, ◌+◌, ◌≤◌, ◌<◌}
 use lib.ListN.{length, drop}
 use lib.Ieee.{Float}
-use Rattle.errors.specs.Answer.{Answer, result, refusal, listed_scalar}
+use Rattle.std.specs.Prelude.{Ok, Err}
+use Rattle.errors.specs.Answer.{Answer}
 use Rattle.errors.specs.declared.Refusal.{Refusal}
-use Rattle.errors.specs.declared.ScalarAnswer.{ScalarAnswer}
 use Rattle.line2.specs.declared.surface2.SurfacePoint2.{SurfacePoint2}
 use Rattle.curve2.specs.Section.{points_of, point_at}
 use Rattle.curve2.proofs.Laws.{points_step, points-end}
@@ -15,15 +15,15 @@ use Rattle.advance.specs.Advance.{farther, farthest}
 -- each way through the loop's body keeps that what is left decides
 
 module _ (ns : List Float) (ray : SurfacePoint2) (i : ℕ) (most : Float) (whole : Answer Float) (inv : farthest ray most (points_of (drop i ns)) ≡ whole) where
-  module _ (fits : i + 1 < length ns) (r : ScalarAnswer) (is : listed_scalar r ≡ farther ray most (point_at ns i)) where
-    pub farthest-refused : (x : Refusal) → r ≡ ScalarAnswer.Refused x → refusal x ≡ whole
+  module _ (fits : i + 1 < length ns) (r : Answer Float) (is : r ≡ farther ray most (point_at ns i)) where
+    pub farthest-refused : (x : Refusal) → r ≡ Err x → Err x ≡ whole
     unfolding farthest
     farthest-refused x e = rw (points_step ns i fits, ← (rw e at is)) at inv
 
-    pub farthest_on : (next : Float) → r ≡ ScalarAnswer.Value next → farthest ray next (points_of (drop (i + 2) ns)) ≡ whole
+    pub farthest_on : (next : Float) → r ≡ Ok next → farthest ray next (points_of (drop (i + 2) ns)) ≡ whole
     unfolding farthest
     farthest_on next e = rw (points_step ns i fits, ← (rw e at is)) at inv
 
-  pub farthest-end : length ns ≤ i → result most ≡ whole
+  pub farthest-end : length ns ≤ i → Ok most ≡ whole
   unfolding farthest
   farthest-end h = rw (points-end ns i h) at inv

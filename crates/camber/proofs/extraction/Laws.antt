@@ -5,7 +5,7 @@ use Prim.Native.Nat.{ℕ}
 use native.Mathlib.Omega.{arith}
 use lib.ListN.{length, length-map, length-reverse}
 use lib.Ieee.{Float}
-use Rattle.errors.specs.Answer.{refusal}
+use Rattle.std.specs.Prelude.{Err}
 use Rattle.errors.specs.declared.Refusal.{Refusal}
 use Rattle.runs.specs.Run.{Ending, ended, spent, Final, under_limit}
 use Rattle.inscribed.specs.Circles.{reversed_points}
@@ -31,7 +31,7 @@ module _ (m : Marched) (limit : ℕ) (c : Inscribed) (r : Run) (after : List Flo
   unfolding reported
   ending_is = ap (λ (x : RunReport). x.ending) is
 
-  pub first_refused : (n : Refusal) → listed_end r.end ≡ ended (refusal n) → listed_run r after ≡ first_half m (under_limit limit) c
+  pub first_refused : (n : Refusal) → listed_end r.end ≡ ended (Err n) → listed_run r after ≡ first_half m (under_limit limit) c
   unfolding after_first
   first_refused n e = is ∙ ap (λ (x : Ending End). after_first m (under_limit limit) first x) (sym e ∙ ending_is)
 

@@ -8,7 +8,8 @@ use native.Mathlib.Omega.{arith}
 use borrow.Author.Tests.{leb-true, le-leb}
 use lib.ListN.{length, drop}
 use lib.Ieee.{Float}
-use Rattle.errors.specs.Answer.{Answer, result, refusal}
+use Rattle.std.specs.Prelude.{Ok, Err}
+use Rattle.errors.specs.Answer.{Answer}
 use Rattle.line2.specs.Lines.{reversed_line}
 use Rattle.runs.specs.Run.{Ending, ended, spent, unfinished, Final, under_limit, whole}
 use Rattle.runs.proofs.LimitLaws.{compared, finishes}
@@ -37,16 +38,16 @@ module _ (limit more : ℕ) (h : limit ≤ more) where
   second_larger : (ns : List Float) (tol : Float) (slots : ℕ) (store : List Float) (k u : ℕ) (a : Answer Inscribed) → ((second_march ns tol slots (under_limit limit) store k u a).ending ≡ spent → ⊥)
       → second_march ns tol slots (under_limit more) store k u a ≡ second_march ns tol slots (under_limit limit) store k u a
   unfolding second_march reported
-  second_larger ns tol slots store k u (refusal n) f = refl
-  second_larger ns tol slots store k u (result c) f =
+  second_larger ns tol slots store k u (Err n) f = refl
+  second_larger ns tol slots store k u (Ok c) f =
       ap (λ (o : Final State End). part_report k store (reported (drop (k * width) store) o)) (march-larger ns tol (slots - k) (refining [] (c ∷ [])) u f)
 
   module _ (m : Marched) where
     after_larger : (o : Final State End) (e : Ending End) → ((after_first m (under_limit limit) o e).ending ≡ spent → ⊥) → after_first m (under_limit more) o e ≡ after_first m (under_limit limit) o e
     unfolding after_first second_half
-    after_larger o (ended (result done)) f =
+    after_larger o (ended (Ok done)) f =
         second_larger m.section m.tol (slots m.store) (stored (turned (circles_in o.state)) m.store) (length (circles_in o.state) - 1) o.units (inscribed_on m.section m.tol (reversed_line m.line)) f
-    after_larger o (ended (refusal n)) f = refl
+    after_larger o (ended (Err n)) f = refl
     after_larger o spent f = refl
     after_larger o unfinished f = refl
 
@@ -61,13 +62,13 @@ module _ (limit more : ℕ) (h : limit ≤ more) where
 
     from_larger : (a : Answer Inscribed) → ((extraction_from m (under_limit limit) a).ending ≡ spent → ⊥) → extraction_from m (under_limit more) a ≡ extraction_from m (under_limit limit) a
     unfolding extraction_from
-    from_larger (refusal r) f = refl
-    from_larger (result c) f = half_larger c f
+    from_larger (Err r) f = refl
+    from_larger (Ok c) f = half_larger c f
 
     extraction_larger : (e : Answer (Unit {0})) → (called_number (extraction_after m (under_limit limit) e) ≡ 14 → ⊥) → extraction_after m (under_limit more) e ≡ extraction_after m (under_limit limit) e
     unfolding extraction_after
-    extraction_larger (refusal r) f = refl
-    extraction_larger (result passed) f = ap (λ (x : RunReport). ran x) (from_larger (start_of m) (λ e. f (ap ending_number e)))
+    extraction_larger (Err r) f = refl
+    extraction_larger (Ok passed) f = ap (λ (x : RunReport). ran x) (from_larger (start_of m) (λ e. f (ap ending_number e)))
 
 -- ---- an extraction ends
 
@@ -77,25 +78,25 @@ march-ends ns tol slots full s u = finishes (march_step ns tol slots) (measure s
 module _ (m : Marched) (full : ℕ → Bool) where
   second_ends : (store : List Float) (k u : ℕ) (a : Answer Inscribed) → (second_march m.section m.tol (slots m.store) full store k u a).ending ≡ unfinished → ⊥
   unfolding second_march part_report reported
-  second_ends store k u (refusal r) = not-unfinished (refusal r)
-  second_ends store k u (result c) = march-ends m.section m.tol (slots m.store - k) full (refining [] (c ∷ [])) u
+  second_ends store k u (Err r) = not-unfinished (Err r)
+  second_ends store k u (Ok c) = march-ends m.section m.tol (slots m.store - k) full (refining [] (c ∷ [])) u
 
   first_ends : (o : Final State End) (e : Ending End) → o.ending ≡ e → (e ≡ unfinished → ⊥) → (after_first m full o e).ending ≡ unfinished → ⊥
   unfolding after_first second_half reported
-  first_ends o (ended (result done)) q n = second_ends _ _ o.units (inscribed_on m.section m.tol (reversed_line m.line))
-  first_ends o (ended (refusal r)) q n = λ p. n (sym q ∙ p)
+  first_ends o (ended (Ok done)) q n = second_ends _ _ o.units (inscribed_on m.section m.tol (reversed_line m.line))
+  first_ends o (ended (Err r)) q n = λ p. n (sym q ∙ p)
   first_ends o spent q n = λ p. n (sym q ∙ p)
   first_ends o unfinished q n = λ p. n refl
 
   from_ends : (a : Answer Inscribed) → (extraction_from m full a).ending ≡ unfinished → ⊥
   unfolding extraction_from
-  from_ends (refusal r) = not-unfinished (refusal r)
-  from_ends (result c) = first_ends (started_run m full c) (started_run m full c).ending refl (march-ends m.section m.tol (slots m.store) full (refining [] (c ∷ [])) 0)
+  from_ends (Err r) = not-unfinished (Err r)
+  from_ends (Ok c) = first_ends (started_run m full c) (started_run m full c).ending refl (march-ends m.section m.tol (slots m.store) full (refining [] (c ∷ [])) 0)
 
   extraction_ends : (e : Answer (Unit {0})) → Ends (extraction_after m full e)
   unfolding extraction_after
-  extraction_ends (refusal r) = tt
-  extraction_ends (result passed) = from_ends (start_of m)
+  extraction_ends (Err r) = tt
+  extraction_ends (Ok passed) = from_ends (start_of m)
 
 pub extraction_law : (m : Marched) (limit : ℕ) → EndingLaw (extraction_of m) limit
 extraction_law m limit = record { ends = extraction_ends m (under_limit limit) (march_entry m); larger = λ more h. extraction_larger limit more h m (march_entry m) }

@@ -1,14 +1,15 @@
 // Single steps, which the C interface doesn't have. Each returns the number that is told.
 use crate::asked::{NOTHING, SECOND, circle_from};
 use crate::cells::{number_at, put};
+use errors::Refusal;
 use inscribed::Inscribed;
 use inscribed::store::WIDTH;
-use line2::surface2::{SurfacePoint2, SurfacePointAnswer};
-use line2::{Line2, ParamsAnswer};
+use line2::surface2::SurfacePoint2;
+use line2::{Line2, LineParams};
 use lists::ends;
 use lists::ends::Pair;
-use points::segment2::EdgePointAnswer;
-use points::{AngleDir, Point2, Vector2, VectorAnswer, segment2};
+use points::segment2::EdgePoint;
+use points::{AngleDir, Point2, Vector2, segment2};
 use root::isqrt;
 
 // ---- arguments
@@ -69,16 +70,16 @@ fn put_vector(v: Vector2, out: &mut [f64]) -> u32 {
     0
 }
 
-fn vector_number(answer: VectorAnswer, out: &mut [f64]) -> u32 {
+fn vector_number(answer: Result<Vector2, Refusal>, out: &mut [f64]) -> u32 {
     match answer {
-        VectorAnswer::Value(v) => put_vector(v, out),
-        VectorAnswer::Refused(r) => errors::number(r),
+        Ok(v) => put_vector(v, out),
+        Err(r) => u32::from(r),
     }
 }
 
-fn ray_number(answer: SurfacePointAnswer, out: &mut [f64]) -> u32 {
+fn ray_number(answer: Result<SurfacePoint2, Refusal>, out: &mut [f64]) -> u32 {
     match answer {
-        SurfacePointAnswer::Value(ray) => {
+        Ok(ray) => {
             let p = ray.point;
             let n = ray.normal;
             put(out, 0, p.x);
@@ -87,29 +88,29 @@ fn ray_number(answer: SurfacePointAnswer, out: &mut [f64]) -> u32 {
             put(out, 3, n.y);
             0
         }
-        SurfacePointAnswer::Refused(r) => errors::number(r),
+        Err(r) => u32::from(r),
     }
 }
 
-fn params_number(answer: ParamsAnswer, out: &mut [f64]) -> u32 {
+fn params_number(answer: Result<Option<LineParams>, Refusal>, out: &mut [f64]) -> u32 {
     match answer {
-        ParamsAnswer::Value(p) => {
+        Ok(Some(p)) => {
             put(out, 0, p.t);
             put(out, 1, p.s);
             0
         }
-        ParamsAnswer::Parallel => NOTHING,
-        ParamsAnswer::Refused(r) => errors::number(r),
+        Ok(None) => NOTHING,
+        Err(r) => u32::from(r),
     }
 }
 
-fn edge_number(answer: EdgePointAnswer, out: &mut [f64]) -> u32 {
+fn edge_number(answer: Result<EdgePoint, Refusal>, out: &mut [f64]) -> u32 {
     match answer {
-        EdgePointAnswer::Value(e) => {
+        Ok(e) => {
             put(out, 0, e.fraction);
             0
         }
-        EdgePointAnswer::Refused(r) => errors::number(r),
+        Err(r) => u32::from(r),
     }
 }
 

@@ -2,9 +2,8 @@
 use crate::asked::steps::record_from;
 use crate::asked::{circle_from, put_circle};
 use crate::buffers::copy_from;
-use inscribed::Inscribed;
 use inscribed::store::WIDTH;
-use lists::{PlaceAnswer, records};
+use lists::records;
 use rummyteak::list;
 
 const SECOND: u32 = WIDTH as u32;
@@ -28,14 +27,9 @@ fn ask_part(store: &[f64], stated: usize, place: usize, out: &mut [f64], count: 
     let mut numbers: usize = 0;
     let number = list::rummyteak_circles_from(store, stated, place, &mut first, &mut numbers);
     *count = numbers;
-    let n = inscribed::store::least(numbers, out.len());
+    let n = numbers.min(out.len());
     copy_from(&mut out[0..n], store, (first % 0x1_0000_0000) as u32);
     number
-}
-
-// Lends the records as a slice.
-fn index_of_tmax_of_four(circles: [Inscribed; 4]) -> PlaceAnswer {
-    records::index_of_tmax_of(&circles)
 }
 
 // The thickest of a store's first four circles, as records.
@@ -44,12 +38,12 @@ fn ask_record(store: &[f64], place: &mut usize) -> u32 {
     let c1 = record_from(store, SECOND);
     let c2 = record_from(store, THIRD);
     let c3 = record_from(store, FOURTH);
-    match index_of_tmax_of_four([c0, c1, c2, c3]) {
-        PlaceAnswer::Value(i) => {
+    match records::index_of_tmax_of(&[c0, c1, c2, c3]) {
+        Ok(i) => {
             *place = i;
             0
         }
-        PlaceAnswer::Refused(r) => errors::number(r),
+        Err(r) => u32::from(r),
     }
 }
 

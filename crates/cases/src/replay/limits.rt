@@ -15,12 +15,10 @@ fn keeps_at(line: &[u8], is_fit: bool, limit: u32, n: &mut [f64], words: &mut [u
 }
 
 fn all_keep(line: &[u8], is_fit: bool, end: u32, n: &mut [f64], words: &mut [u64]) -> bool {
-    let mut limit = script::limit_of(line, 1);
-    while limit < end {
+    for limit in script::limit_of(line, 1)..end {
         if !keeps_at(line, is_fit, limit, n, words) {
             return false;
         }
-        limit += 1;
     }
     true
 }
@@ -42,12 +40,10 @@ fn agree_at(line: &[u8], limit: u32, n: &mut [f64], words: &mut [u64]) -> bool {
 }
 
 fn all_agree(line: &[u8], end: u32, n: &mut [f64], words: &mut [u64]) -> bool {
-    let mut limit: u32 = 0;
-    while limit < end {
+    for limit in 0..end {
         if !agree_at(line, limit, n, words) {
             return false;
         }
-        limit += 1;
     }
     true
 }

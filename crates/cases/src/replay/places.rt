@@ -49,12 +49,10 @@ fn each_is_refused(line: &[u8], i: usize, n: &mut [f64], words: &mut [u64]) -> b
 
 fn all_refused(line: &[u8], n: &mut [f64], words: &mut [u64]) -> bool {
     let end = buffers::count(line, 2);
-    let mut i: usize = buffers::count(line, 1);
-    while i < end {
+    for i in buffers::count(line, 1)..end {
         if !each_is_refused(line, i, n, words) {
             return false;
         }
-        i += 1;
     }
     true
 }

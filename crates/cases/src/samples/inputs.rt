@@ -30,8 +30,7 @@ pub(crate) fn section(seed: u64) -> [f64; 42] {
     let upper = 0.5 + grain(w2);
     let bend = grain(w3) - 0.5;
     let mut numbers = [0.0; 42];
-    let mut j: usize = 0;
-    while j < 11 {
+    for j in 0..11 {
         let x = j as f64;
         let i = 2 * j;
         let i1 = i + 1;
@@ -41,7 +40,6 @@ pub(crate) fn section(seed: u64) -> [f64; 42] {
         numbers[k1] = side(x, bend, upper);
         numbers[i] = x;
         numbers[i1] = side(x, bend, -lower);
-        j += 1;
     }
     numbers
 }

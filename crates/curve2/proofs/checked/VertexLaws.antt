@@ -22,9 +22,9 @@ module _ (ns : List Float) (tol : Float) (i : ℕ) where
   front_direction e = rw (eq-eqb i 0 e) (and_true (is_closed ns tol) _ _)
 
   module _ (later : i ≡ 0 → ⊥) where
-    pub back_direction : i ≡ last_vertex ns → cond (is_closed ns tol) (mean_direction ns 0 (last_vertex ns - 1)) (edge_direction ns (last_vertex ns - 1)) ≡ vertex_direction ns tol i
+    pub back_direction : i ≡ last_vertex ns → cond (is_closed ns tol) (mean_direction ns 0 (last_vertex ns - 1)) (edge_direction ns (i - 1)) ≡ vertex_direction ns tol i
     unfolding vertex_direction
-    back_direction e = rw (ne_eqb i 0 later, eq-eqb i (last_vertex ns) e) (and_true (is_closed ns tol) _ _)
+    back_direction e = rw (ne_eqb i 0 later, eq-eqb i (last_vertex ns) e, e) (and_true (is_closed ns tol) _ _)
 
     pub inner_direction : (i ≡ last_vertex ns → ⊥) → mean_direction ns (i - 1) i ≡ vertex_direction ns tol i
     unfolding vertex_direction

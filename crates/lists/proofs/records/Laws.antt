@@ -1,78 +1,45 @@
 -- The thickest circle, one record after the other. Assumes nothing.
-use mathlib.Core.Path.{◌≡◌, refl, ◌∙◌}
-use mathlib.Core.Bool.{Bool, true, false}
+use mathlib.Core.Path.{◌≡◌}
+use mathlib.Core.Bool.{true, false}
 use mathlib.Core.List.{List, [], ◌∷◌}
 use Prim.Native.Nat.{ℕ, ◌+◌, ◌≤◌, ◌<◌}
 use native.Mathlib.Numerals.{add-one}
 use lib.ListN.{length, get_or, drop, drop_of_length-le}
 use lib.Seq.{drop-cons}
-use lib.Ieee.{Float, nan, inf, fin, binary64, div, of_bits, lt}
+use lib.Ieee.{Float, nan, lt}
 use Rattle.errors.specs.declared.Refusal.TheVariants.{BadNumber}
-use Rattle.errors.specs.Answer.{Answer, result, refusal}
+use Rattle.std.specs.Prelude.{Ok, Err}
+use Rattle.errors.specs.Answer.{Answer, ◌>>=◌}
+use Rattle.curve2.specs.Entry.{tested}
 use Rattle.inscribed.specs.Store.{bad_circle, any_bad}
 use Rattle.inscribed.specs.declared.Inscribed.{Inscribed}
-use Rattle.inscribed.specs.Lists.{tmax_from, tmax}
+use Rattle.inscribed.specs.Lists.{tmax_from}
+use Rattle.inscribed.proofs.MeasureLaws.{tmax_from_first}
 use Rattle.lists.specs.Asked.{tmax_records}
-use Rattle.lists.specs.Code.{tmax_after}
-use Rattle.lists.specs.declared.records.Thickest.{Thickest}
 
-abbrev pub thickest : ℕ → Float → Bool → Thickest
-thickest place radius bad = record { place = place; radius = radius; bad = bad }
+-- what is told of the records from place k on, after the best of those before it
+unfoldable pub tmax_after : ℕ → Float → ℕ → List Inscribed → Answer ℕ
+tmax_after best most k cs = tested ((BadNumber, any_bad cs) ∷ []) >>= λ passed. Ok (tmax_from best most k cs)
 
--- ---- before the first record
-
--- what the first radius is compared with: no number is less
-abbrev pub first : Float
-first = div binary64 (of_bits binary64 0) (of_bits binary64 0)
-
-never_less : (x : Float) → lt x first ≡ false
-unfolding lt div of_bits
-never_less nan = refl
-never_less (inf s) = refl
-never_less (fin s m e) = refl
-
-tmax_start : (cs : List Inscribed) → tmax_from 0 first 0 cs ≡ tmax cs
-unfolding tmax_from tmax
-tmax_start [] = refl
-tmax_start (c ∷ cs) = rw (never_less c.r)
-
-pub none_start : (cs : List Inscribed) → tmax_after (thickest 0 first false) 0 cs ≡ tmax_records cs
+pub tmax_start : (cs : List Inscribed) → tmax_after 0 nan 0 cs ≡ tmax_records cs
 unfolding tmax_after tmax_records
-none_start cs = rw (tmax_start cs)
+tmax_start cs = rw (tmax_from_first cs)
 
--- ---- one record more
+module _ (cs : List Inscribed) (best : ℕ) (most : Float) (k : ℕ) (inv : tmax_after best most k (drop k cs) ≡ tmax_records cs) where
+  module _ (d : Inscribed) (h : k < length cs) where
+    pub bad_record : bad_circle (get_or cs k d) ≡ true → Err BadNumber ≡ tmax_records cs
+    unfolding tmax_after any_bad
+    bad_record p = rw (drop-cons cs k d h, p) at inv
 
-module _ (place : ℕ) (radius : Float) (k : ℕ) (c : Inscribed) (cs : List Inscribed) where
-  pub after_bad : (bad : Bool) → bad_circle c ≡ true → tmax_after (thickest place radius true) (k + 1) cs ≡ tmax_after (thickest place radius bad) k (c ∷ cs)
-  unfolding tmax_after any_bad
-  after_bad true p = refl
-  after_bad false p = rw p
+    module _ (p : bad_circle (get_or cs k d) ≡ false) where
+      pub record_kept : lt (get_or cs k d).r most ≡ true → tmax_after best most (k + 1) (drop (k + 1) cs) ≡ tmax_records cs
+      unfolding tmax_after any_bad tmax_from
+      record_kept q = rw (add-one k) (rw (drop-cons cs k d h, p, q) at inv)
 
-  module _ (bad : Bool) (p : bad_circle c ≡ false) where
-    pub after_less : lt c.r radius ≡ true → tmax_after (thickest place radius bad) (k + 1) cs ≡ tmax_after (thickest place radius bad) k (c ∷ cs)
-    unfolding tmax_after any_bad tmax_from
-    after_less q = rw (p, q, add-one k)
+      pub record_won : lt (get_or cs k d).r most ≡ false → tmax_after k (get_or cs k d).r (k + 1) (drop (k + 1) cs) ≡ tmax_records cs
+      unfolding tmax_after any_bad tmax_from
+      record_won q = rw (add-one k) (rw (drop-cons cs k d h, p, q) at inv)
 
-    pub after_won : lt c.r radius ≡ false → tmax_after (thickest k c.r bad) (k + 1) cs ≡ tmax_after (thickest place radius bad) k (c ∷ cs)
-    unfolding tmax_after any_bad tmax_from
-    after_won q = rw (p, q, add-one k)
-
--- ---- no record more
-
-module _ (place : ℕ) (radius : Float) (k : ℕ) where
-  pub told-bad : (bad : Bool) → bad ≡ true → refusal BadNumber ≡ tmax_after (thickest place radius bad) k []
-  unfolding tmax_after
-  told-bad bad p = rw p
-
-  pub told-place : (bad : Bool) → bad ≡ false → result place ≡ tmax_after (thickest place radius bad) k []
+  pub records_over : length cs ≤ k → Ok best ≡ tmax_records cs
   unfolding tmax_after any_bad tmax_from
-  told-place bad p = rw p
-
--- ---- the loop over a slice
-
-module _ (cs : List Inscribed) (k : ℕ) (seen : Thickest) (inv : tmax_after seen k (drop k cs) ≡ tmax_records cs) where
-  pub goes_on : (d : Inscribed) (next : Thickest) → k < length cs → ((ds : List Inscribed) → tmax_after next (k + 1) ds ≡ tmax_after seen k (get_or cs k d ∷ ds)) → tmax_after next (k + 1) (drop (k + 1) cs) ≡ tmax_records cs
-  goes_on d next h step = step (drop (k + 1) cs) ∙ (rw (drop-cons cs k d h, ← (add-one k)) at inv)
-
-  pub is_over : length cs ≤ k → (r : Answer ℕ) → ((j : ℕ) → r ≡ tmax_after seen j []) → r ≡ tmax_records cs
-  is_over h r told = told k ∙ (rw (drop_of_length-le cs h) at inv)
+  records_over h = rw (drop_of_length-le cs h) at inv

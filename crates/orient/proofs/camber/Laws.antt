@@ -8,42 +8,42 @@ use borrow.Author.Tests.{ltb-false}
 use lib.Dec.{ltb}
 use lib.ListN.{length, take}
 use lib.Ieee.{Float}
-use Rattle.errors.specs.Answer.{Answer, result, refusal, ◌>>=◌}
+use Rattle.std.specs.Prelude.{Ok, Err}
+use Rattle.errors.specs.Answer.{Answer, ◌>>=◌}
 use Rattle.errors.specs.declared.Refusal.{Refusal}
 use Rattle.points.specs.declared.Point2.{Point2}
 use Rattle.curve2.specs.Entry.{HasPoints}
 use Rattle.cleaning.specs.Cleaning.{kept, point_numbers, curve_of, curve_answer, output_after, Made}
 use Rattle.cleaning.specs.declared.Curve.{Curve}
-use Rattle.cleaning.specs.declared.CurveAnswer.{CurveAnswer}
 use Rattle.cleaning.proofs.Made.{kept-count, first_numbers, first_length}
 use Rattle.inscribed.specs.Circles.{center}
 use Rattle.inscribed.specs.declared.Inscribed.{Inscribed}
-use Rattle.orient.specs.Camber.{Camber, camber_with}
+use Rattle.orient.specs.Camber.{Camber, camber, camber_with}
 use Rattle.errors.specs.declared.Refusal.TheVariants.{TooFewKept}
 
 -- the points of a curve that was made, and its numbers
 pub record MadeCurve (tol : Float) (qs : List Point2) (new : List Float) (n : ℕ) : Type 0 where
   pub points : List Point2
-  pub is : curve_of tol false qs ≡ result points
+  pub is : curve_of tol false qs ≡ Ok points
   pub numbers : take (2 * n) new ≡ point_numbers points
   pub long : length (take (2 * n) new) ≡ 2 * n
   pub least : 2 ≤ n
   pub most : n ≤ length qs
 
 count_in : Answer Curve → ℕ
-count_in (result c) = c.count
-count_in (refusal n) = 0
+count_in (Ok c) = c.count
+count_in (Err n) = 0
 
 kept-most : (tol : Float) (qs : List Point2) → length (kept tol qs) ≤ length qs
 unfolding kept
 kept-most tol [] = omega arith
 kept-most tol (q ∷ qs) = omega (arith, kept-count tol q qs)
 
-pub made_curve : (tol : Float) (qs : List Point2) (old new : List Float) (c : Curve) → Made (curve_of tol false qs) tol old new (CurveAnswer.Value c) → MadeCurve tol qs new c.count
+pub made_curve : (tol : Float) (qs : List Point2) (old new : List Float) (c : Curve) → Made (curve_of tol false qs) tol old new (Ok c) → MadeCurve tol qs new c.count
 unfolding curve_of curve_answer output_after count_in
 made_curve tol qs old new c m = go (ltb (length (kept tol qs)) 2) refl m.listed m.output
   where
-    go : (few : Bool) → ltb (length (kept tol qs)) 2 ≡ few → result c ≡ curve_answer tol (cond few (refusal TooFewKept) (result (kept tol qs))) → new ≡ output_after (cond few (refusal TooFewKept) (result (kept tol qs))) old
+    go : (few : Bool) → ltb (length (kept tol qs)) 2 ≡ few → Ok c ≡ curve_answer tol (cond few (Err TooFewKept) (Ok (kept tol qs))) → new ≡ output_after (cond few (Err TooFewKept) (Ok (kept tol qs))) old
         → MadeCurve tol qs new c.count
     go true e l o = let z : ◌≡◌ {A = ℕ} 0 1 = cc in absurd (omega arith)
     go false e l o =
@@ -61,15 +61,14 @@ made_curve tol qs old new c m = go (ltb (length (kept tol qs)) 2) refl m.listed 
 pub curve_has_points : (tol : Float) (qs : List Point2) (new : List Float) (n : ℕ) → MadeCurve tol qs new n → length qs ≤ 1024 → HasPoints (take (2 * n) new)
 curve_has_points tol qs new n m h = record { even = omega (arith, m.long); least = omega (arith, m.long, m.least); most = omega (arith, m.long, m.most) }
 
-pub camber_refused : (cs : List Inscribed) (tol : Float) (old new : List Float) (x : Refusal) (f : Camber → Answer Bool) → Made (curve_of tol false (map center cs)) tol old new (CurveAnswer.Refused x)
-    → refusal x ≡ (camber_with cs tol >>= f)
+pub camber_refused : (cs : List Inscribed) (tol : Float) (old new : List Float) (x : Refusal) → Made (curve_of tol false (map center cs)) tol old new (Err x) → Err x ≡ camber_with cs tol
 unfolding camber_with curve_answer
-camber_refused cs tol old new x f m = go (curve_of tol false (map center cs)) m
+camber_refused cs tol old new x m = go (curve_of tol false (map center cs)) m
   where
-    again : Answer Curve → Answer Bool
-    again (result c) = refusal TooFewKept
-    again (refusal k) = refusal k
+    again : Answer Curve → Answer Camber
+    again (Ok c) = Err TooFewKept
+    again (Err k) = Err k
 
-    go : (answer : Answer (List Point2)) → Made answer tol old new (CurveAnswer.Refused x) → refusal x ≡ ((answer >>= λ curve. result (record { numbers = point_numbers curve; tolerance = tol })) >>= f)
-    go (result ps) n = let e = n.listed in let z : ◌≡◌ {A = ℕ} 0 1 = cc in absurd (omega arith)
-    go (refusal k) n = ap again n.listed
+    go : (answer : Answer (List Point2)) → Made answer tol old new (Err x) → Err x ≡ (answer >>= λ curve. Ok (camber (point_numbers curve) tol))
+    go (Ok ps) n = let e = n.listed in let z : ◌≡◌ {A = ℕ} 0 1 = cc in absurd (omega arith)
+    go (Err k) n = ap again n.listed

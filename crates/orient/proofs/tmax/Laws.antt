@@ -4,7 +4,8 @@ use mathlib.Core.List.{List}
 use Prim.Native.Nat.{ℕ, ◌+◌, ◌≤◌, ◌<◌}
 use native.Mathlib.Omega.{arith}
 use lib.Ieee.{Float}
-use Rattle.errors.specs.Answer.{Answer, result, refusal, ◌>>=◌}
+use Rattle.std.specs.Prelude.{Ok, Err}
+use Rattle.errors.specs.Answer.{Answer, ◌>>=◌}
 use Rattle.points.specs.declared.Point2.{Point2}
 use Rattle.points.specs.declared.Vector2.{Vector2}
 use Rattle.queries.specs.Nearest.{nearest_of}
@@ -25,24 +26,24 @@ module _ (ns : List Float) (count : ℕ) (some : 1 ≤ count) where
   pub thickest_below : tmax (circles_of ns count) < count
   thickest_below = let l = length-circles ns 0 count in omega (arith, l, tmax-place (circles_of ns count) (omega (arith, l)))
 
-  pub thickest-at : circle_at ns (tmax (circles_of ns count)) ≡ thickest (circles_of ns count)
+  pub thickest_at : circle_at ns (tmax (circles_of ns count)) ≡ thickest (circles_of ns count)
   unfolding thickest
-  thickest-at = let z : 0 + tmax (circles_of ns count) ≡ tmax (circles_of ns count) = omega arith in rw (circle_of_list ns 0 count (tmax (circles_of ns count)) _ thickest_below, z)
+  thickest_at = let z : 0 + tmax (circles_of ns count) ≡ tmax (circles_of ns count) = omega arith in rw (circle_of_list ns 0 count (tmax (circles_of ns count)) _ thickest_below, z)
 
 -- ---- the nearest station stands on an edge
 
 index_in : Answer CurveStation2 → ℕ
-index_in (result s) = s.index
-index_in (refusal n) = 0
+index_in (Ok s) = s.index
+index_in (Err n) = 0
 
-pub station_below : (ns : List Float) (p : Point2) (s : CurveStation2) → result s ≡ at_closest ns p → s.index < last_vertex ns
+pub station_below : (ns : List Float) (p : Point2) (s : CurveStation2) → Ok s ≡ at_closest ns p → s.index < last_vertex ns
 unfolding at_closest index_in
 station_below ns p s e = go (nearest_of ns p) refl e
   where
-    more : (n : Nearest) (d : Answer Vector2) → n.index < last_vertex ns → result s ≡ (d >>= λ v. result (station n.at.point v n.index n.at.fraction)) → s.index < last_vertex ns
-    more n (result v) h f = rw (ap index_in f) h
-    more n (refusal k) h f = let z : ◌≡◌ {A = ℕ} 0 1 = cc in absurd (omega arith)
+    more : (n : Nearest) (d : Answer Vector2) → n.index < last_vertex ns → Ok s ≡ (d >>= λ v. Ok (station n.at.point v n.index n.at.fraction)) → s.index < last_vertex ns
+    more n (Ok v) h f = rw (ap index_in f) h
+    more n (Err k) h f = let z : ◌≡◌ {A = ℕ} 0 1 = cc in absurd (omega arith)
 
-    go : (x : Answer Nearest) → nearest_of ns p ≡ x → result s ≡ (x >>= λ n. edge_direction ns n.index >>= λ d. result (station n.at.point d n.index n.at.fraction)) → s.index < last_vertex ns
-    go (result n) q f = more n (edge_direction ns n.index) (nearest_below ns p n q) f
-    go (refusal k) q f = let z : ◌≡◌ {A = ℕ} 0 1 = cc in absurd (omega arith)
+    go : (x : Answer Nearest) → nearest_of ns p ≡ x → Ok s ≡ (x >>= λ n. edge_direction ns n.index >>= λ d. Ok (station n.at.point d n.index n.at.fraction)) → s.index < last_vertex ns
+    go (Ok n) q f = more n (edge_direction ns n.index) (nearest_below ns p n q) f
+    go (Err k) q f = let z : ◌≡◌ {A = ℕ} 0 1 = cc in absurd (omega arith)

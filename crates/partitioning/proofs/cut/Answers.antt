@@ -3,4 +3,4 @@ use Rattle.partitioning.proofs.PieceLaws.{cut_made}
 use Rattle.partitioning.proofs.cut.Goals as goal
 
 pub returns : goal.returns
-returns c = cut_made _ _ _ _ _ _ c.keep_points-c.ensures
+returns c = cut_made c.args.given.now _ _ _ c.clean-c.ensures

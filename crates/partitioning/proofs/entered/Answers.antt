@@ -1,12 +1,12 @@
--- `entered` tests the count of points, and then as a section. Assumes nothing.
+-- What passed the tests can be cut. Assumes nothing.
 use Rattle.errors.proofs.Laws.{told}
+use Rattle.partitioning.proofs.PieceLaws.{lent-cuttable}
 use Rattle.partitioning.specs.Pieces.{stretch_entry}
 use Rattle.partitioning.proofs.entered.Goals as goal
 
-pub returns-then-is_bad_count : goal.returns-then-is_bad_count
+pub returns-clause-ready : goal.returns-clause-ready
 unfolding stretch_entry
-returns-then-is_bad_count c = rw (told c.is_bad_count.ensures c.if-is_bad_count.true)
-
-pub returns : goal.returns
-unfolding stretch_entry
-returns c = rw (told c.is_bad_count.ensures c.if-is_bad_count.false) c.section_entry.ensures
+returns-clause-ready c =
+    lent-cuttable c.args.section.now c.args.tol c.args.is_finite c.args.room c.section_entry.result
+    (rw (told c.is_bad_count.ensures c.if-is_bad_count.false) c.section_entry.ensures.entry)
+    c.section_entry.ensures.lent

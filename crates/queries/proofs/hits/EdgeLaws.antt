@@ -1,7 +1,7 @@
 -- A section's edges by the numbers of their points. Assumes nothing.
 use mathlib.Core.Path.{◌≡◌, refl}
 use mathlib.Core.List.{List, [], ◌∷◌}
-use Prim.Native.Nat.{ℕ, suc, ◌+◌, ◌-◌, ◌/◌, ◌<◌}
+use Prim.Native.Nat.{ℕ, ◌+◌, ◌-◌, ◌*◌, ◌<◌}
 use native.Mathlib.Omega.{arith}
 use lib.ListN.{length, drop}
 use lib.Ieee.{Float}
@@ -19,9 +19,9 @@ pub edges-end : (ns : List Float) (i : ℕ) → i + 2 ≡ length ns → edges_of
 unfolding edges_of
 edges-end ns i h = rw (points_step ns i (omega arith), points-end ns (i + 2) (omega arith))
 
--- the next edge's number
-pub next_edge : (i : ℕ) → (i + 2) / 2 ≡ suc (i / 2)
-next_edge i = omega arith
+-- where the numbers of the next edge start
+pub next_edge : (k : ℕ) → 2 * (k + 1) ≡ 2 * k + 2
+next_edge k = omega arith
 
 -- one edge fewer than points
 pub length-edges : (ps : List Point2) → length (edges_of ps) ≡ length ps - 1

@@ -2,7 +2,8 @@
 use mathlib.Core.Path.{◌≡◌, refl}
 use mathlib.Core.List.{List, [], ◌∷◌}
 use lib.Ieee.{Float}
-use Rattle.errors.specs.Answer.{Answer, result, refusal, ◌>>=◌}
+use Rattle.std.specs.Prelude.{Ok, Err}
+use Rattle.errors.specs.Answer.{Answer, ◌>>=◌}
 use Rattle.line2.specs.declared.Line2.{Line2}
 use Rattle.queries.specs.Hits.{section_edges, hits_from}
 use Rattle.queries.specs.declared.Hit.{Hit}
@@ -26,6 +27,6 @@ after_nothing (g ∷ (h ∷ (k ∷ hs))) = after_many hs
 pub seen_start : (ns : List Float) (l : Line2) → pass_left added_to ns l 0 Seen.Nothing ≡ seen_hits ns l
 seen_start ns l = go (hits_from l 0 (section_edges ns))
   where
-    go : (a : Answer (List Hit)) → (a >>= λ hs. result (gathered added_to Seen.Nothing hs)) ≡ (a >>= λ hs. result (seen_of hs))
-    go (result hs) = rw (after_nothing hs)
-    go (refusal n) = refl
+    go : (a : Answer (List Hit)) → (a >>= λ hs. Ok (gathered added_to Seen.Nothing hs)) ≡ (a >>= λ hs. Ok (seen_of hs))
+    go (Ok hs) = rw (after_nothing hs)
+    go (Err n) = refl

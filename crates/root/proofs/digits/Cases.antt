@@ -1,7 +1,6 @@
 -- The root by the tests that come before it: below zero, zero, infinite, and what is left, finite and above zero. Assumes nothing.
 use Rattle.std.proofs.Common.{◌≡◌, ℕ, zero, suc, ◌+◌, ◌*◌, ◌<◌, true, false, T, ℤ, pos, sym, refl, subst, zero-lt-suc, mul-pos, arith, lt→ltb, ltb-false, ltb-true}
-use lib.Ieee.{Float, nan, inf, fin, up, down, lt, ne}
-use lib.Ieee.Compare.{differs_from_itself}
+use lib.Ieee.{Float, nan, inf, fin, up, down, lt, is_nan}
 use lib.Ieee.Fits.{up_pos}
 use lib.Ieee.Positive.{positive}
 use Rattle.root.specs.Sqrt.{sqrt_of}
@@ -10,8 +9,11 @@ use Rattle.root.specs.Sqrt.{sqrt_of}
 above : (m : ℕ) (e : ℤ) → 0 < suc m * up e
 above m e = mul-pos (zero-lt-suc m) (up_pos e)
 
-pub root-nan : (x : Float) → ne x x ≡ true → x ≡ sqrt_of x
-root-nan x h = subst (λ (v : Float). v ≡ sqrt_of v) (sym (differs_from_itself x (subst T (sym h) tt))) (unfold sqrt_of in refl)
+pub root-nan : (x : Float) → is_nan x ≡ true → x ≡ sqrt_of x
+unfolding is_nan sqrt_of
+root-nan nan h = refl
+root-nan (inf s) h = cc
+root-nan (fin s m e) h = cc
 
 pub below_nan : (x : Float) → lt x (fin false 0 (pos 0)) ≡ true → nan ≡ sqrt_of x
 unfolding lt sqrt_of

@@ -1,12 +1,11 @@
 -- A value above zero by its pattern b: the exponent's field is b / 2 ^ 52, the fraction b % 2 ^ 52. They say how many units the value is, and so how its square is scaled. Assumes nothing.
 use Rattle.std.proofs.Common.{◌≡◌, ℕ, zero, suc, ◌+◌, ◌-◌, ◌*◌, ◌/◌, ◌%◌, ◌^◌, ◌<◌, ◌≤◌, Bool, true, false, cond, not, T, eqb, leb, sym, refl, ap, ◌∙◌, subst, mod-eq_of_lt, zero-lt-suc, mul-pos, mul-one, mul-div_cancel, arith, pow_pos, le-ltb, ne_eqb, leb-false}
 use lib.Bits.{bit_and, and_mask}
-use lib.Ieee.{Float, nan, inf, fin, binary64, low, down, odd, ne, fits, is_nan, nan_bits, of_fields, of_bits, to_bits}
+use lib.Ieee.{Float, nan, inf, fin, binary64, low, down, odd, fits, is_nan, nan_bits, of_fields, of_bits, to_bits}
 use lib.Ieee.Digits.{Equals, odd_val}
 use lib.Ieee.Fits.{down_pos, eq→eqb}
 use lib.Ieee.Exact.{odd_sign}
 use lib.Ieee.Bits.{of_bits-to_bits, nan_bits_above}
-use lib.Ieee.Compare.{nan_differs}
 use lib.Ieee.Positive.{positive, positive_of_value}
 use borrow.Author.Tests.{lt-leb}
 use Rattle.root.specs.Nearest.{magnitude, square}
@@ -127,10 +126,3 @@ plus-number (fin s m e) p = tt
 -- a pattern up to the infinity's is no NaN's
 pub no_nan : (b : ℕ) → b ≤ 2047 * 2 ^ 52 → T (not (nan_bits binary64 b))
 no_nan b h = rw (nan_bits_above binary64 b, le-ltb (2047 * 2 ^ 52) (b % 2 ^ 63) (omega arith)) tt
-
--- what doesn't differ from itself is no NaN
-pub same_number : (x : Float) → ne x x ≡ false → T (not (is_nan x))
-unfolding is_nan
-same_number nan h = subst T (sym nan_differs ∙ h) tt
-same_number (inf s) h = tt
-same_number (fin s m e) h = tt

@@ -14,7 +14,6 @@ use lib.Ieee.Bits.{is_true, of_bits-to_bits}
 use Rattle.root.specs.Sqrt.{IsRoot, whole_root, root_of_units, sqrt_of}
 use Rattle.root.specs.Code.{Rooted, NearRoot, IsScaled}
 use Rattle.root.specs.Nearest.{magnitude, square}
-use Rattle.root.proofs.isqrt.Turns.{rooted_root}
 use Rattle.root.proofs.isqrt.Whole.{le-root, whole_root_lem}
 
 -- ---- the digits below are dropped
@@ -207,11 +206,8 @@ module _ (x : Float) (p : T (positive x)) (a k q : ℕ) (s : IsScaled (square x)
 
 -- ---- the nearest by the digits: the word holds a at its top, and 21 pairs of zeros come after it
 
-pub word_rooted : {n a k q r : ℕ} → IsScaled n a k → Rooted (a * 2 ^ 10 % 2 ^ 64 * 4 ^ 21) q r → Rooted (a * 2 ^ 52) q r
+pub word_rooted : {n a k q r : ℕ} → IsScaled n a k → Rooted (a * 2 ^ 10 % 2 ^ 64 * 4 ^ 53 / 4 ^ 32) q r → Rooted (a * 2 ^ 52) q r
 word_rooted {n} {a} {k} {q} {r} s w = subst (λ (m : ℕ). Rooted m q r) (omega (arith, s.high)) w
-
-pub word-short : {n a k q r : ℕ} → IsScaled n a k → Rooted (a * 2 ^ 10 % 2 ^ 64 * 4 ^ 21) q r → q < 2 ^ 53
-word-short {n} {a} {k} {q} s w = root-high (a * 2 ^ 52) q (omega (arith, s.low)) (omega (arith, s.high)) (rooted_root refl (word_rooted s w))
 
 pub near_down : {m q r : ℕ} → 0 < m → Rooted m q r → r ≤ q → NearRoot m q
 near_down {m} {q} {r} p h l = record { low = go q h.sum l; high = omega (arith, h.sum) }

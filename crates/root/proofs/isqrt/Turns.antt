@@ -1,9 +1,6 @@
--- A root's binary digits, one a turn. The number's digits come in two at a time from the top of a word of v + 2 digits. Both loops cite these laws, each at its width.
--- Assumes nothing.
-use Rattle.std.proofs.Common.{◌≡◌, ℕ, ◌+◌, ◌-◌, ◌*◌, ◌/◌, ◌%◌, ◌^◌, ◌<◌, ◌≤◌, sym, ap, ◌∙◌, zero-le, lt_of_lt_of_le, lt_of_le_of_lt, mod-lt, mul_assoc, div-lt_iff_lt-mul, pow-suc, div-add-mod', sub-add_cancel, mul-div_cancel, add-one, arith, pow_pos, pow_mono, pow-add}
+-- A root's binary digits, one a turn. The number's digits come in two at a time from the top of a word of v + 2 digits. Assumes nothing.
+use Rattle.std.proofs.Common.{◌≡◌, ℕ, ◌+◌, ◌*◌, ◌/◌, ◌%◌, ◌^◌, ◌<◌, ◌≤◌, sym, ap, ◌∙◌, lt_of_lt_of_le, mod-lt, div-lt_iff_lt-mul, pow-suc, div-add-mod', add-one, arith, pow_pos, pow_mono}
 use lib.Arith.{digits_div, digits_mod}
-use Rattle.root.specs.Sqrt.{IsRoot}
-use Rattle.root.specs.Code.{Rooted}
 
 -- After i turns the root's digits so far are q, with r left of the digits that came in, and the others stand in a.
 pub record Fed (v word i q r a : ℕ) : Type 0 where
@@ -11,12 +8,6 @@ pub record Fed (v word i q r a : ℕ) : Type 0 where
   pub small : r ≤ 2 * q
   pub rest : a < 2 ^ v * 4
   pub short : q < 2 ^ i
-
-pub fed_start : (v word : ℕ) → word < 2 ^ v * 4 → Fed v word 0 0 0 word
-fed_start v word h = record { sum = omega arith; small = omega arith; rest = h; short = omega arith }
-
-low_unique : (c x y a : ℕ) → a < c → x * c + a ≡ y * c → x ≡ y
-low_unique c x y a h e = sym (digits_div x h) ∙ ap (λ (z : ℕ). z / c) e ∙ mul-div_cancel y (lt_of_le_of_lt zero-le h)
 
 pub fed_below : {v word i q r a : ℕ} (m : ℕ) → Fed v word i q r a → i ≤ m → q < 2 ^ m
 fed_below m f h = lt_of_lt_of_le f.short (pow_mono h)
@@ -57,21 +48,3 @@ module _ (v word i q r a : ℕ) (f : Fed v word i q r a) where
     rest = rest';
     short = rw (add-one i, pow-suc 2 i) (omega (arith, f.short));
   }
-
--- ---- once all of the word's digits have come in, the word is empty
-
-fed_whole : (v word i n q r a : ℕ) → Fed v word i q r a → word * 4 ^ i ≡ n * (2 ^ v * 4) → Rooted n q r
-fed_whole v word i n q r a f e = record {
-  sum = low_unique (2 ^ v * 4) (q * q + r) n a f.rest (f.sum ∙ e);
-  small = f.small;
-}
-
--- The word has 2 * h digits, so from the turn h on zeros come in.
-pub fed_turns : (v h turns : ℕ) {word i q r a : ℕ} → 2 ^ v * 4 ≡ 4 ^ h → h ≤ turns → i ≡ turns → Fed v word i q r a → Rooted (word * 4 ^ (turns - h)) q r
-fed_turns v h turns {word} {i} {q} {r} {a} w l e f = fed_whole v word i (word * 4 ^ (turns - h)) q r a f (ap (λ (x : ℕ). word * 4 ^ x) e ∙ ap (λ (x : ℕ). word * x) four ∙ sym (mul_assoc word (4 ^ (turns - h)) (2 ^ v * 4)))
-  where
-    four : 4 ^ turns ≡ 4 ^ (turns - h) * (2 ^ v * 4)
-    four = ap (λ (x : ℕ). 4 ^ x) (sym (sub-add_cancel l)) ∙ pow-add 4 (turns - h) h ∙ ap (λ (x : ℕ). 4 ^ (turns - h) * x) (sym w)
-
-pub rooted_root : {m n q r : ℕ} → m ≡ n → Rooted m q r → IsRoot n q
-rooted_root e f = record { below = omega (arith, e, f.sum); above = omega (arith, e, f.sum, f.small) }

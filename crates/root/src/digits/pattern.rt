@@ -19,9 +19,10 @@ fn halved(m: u64, e: u64) -> Scaled
     requires { (2 ^ 52 ≤ m) × (m < 2 ^ 53) × (e ≤ 3067) }
     ensures { IsScaled (m * 2 ^ 52 * 2 ^ e) result.a result.k }
 {
-    let a = m << (e & 1);
-    let k = e >> 1;
-    Scaled { a, k }
+    Scaled {
+        a: m << (e & 1),
+        k: e >> 1,
+    }
 }
 
 // Where the exponent's field is 0, the value is `fraction` units. Its leading zeros are shifted out.
@@ -29,10 +30,8 @@ fn subnormal(fraction: u64) -> Scaled
     requires { (0 < fraction) × (fraction < 2 ^ 52) }
     ensures { IsScaled (fraction * 2 ^ low binary64) result.a result.k }
 {
-    let zeros = u64::leading_zeros(fraction);
-    let m = fraction << (zeros - 11);
-    let e = 1033 - zeros as u64;
-    halved(m, e)
+    let zeros = fraction.leading_zeros();
+    halved(fraction << (zeros - 11), 1033 - u64::from(zeros))
 }
 
 // Any other field counts from 1, and the fraction has a leading digit.
@@ -40,9 +39,7 @@ pub(crate) fn normal(field: u64, fraction: u64) -> Scaled
     requires { (0 < field) × (field < 2047) × (fraction < 2 ^ 52) }
     ensures { IsScaled ((2 ^ 52 + fraction) * 2 ^ (field - 1) * 2 ^ low binary64) result.a result.k }
 {
-    let m = fraction | 0x0010_0000_0000_0000;
-    let e = field + 1021;
-    halved(m, e)
+    halved(fraction | 0x0010_0000_0000_0000, field + 1021)
 }
 
 // The square of the root of x, in units of 2^-1074.
@@ -50,13 +47,14 @@ pub(crate) fn split(x: f64) -> Scaled
     requires { T (positive x) }
     ensures { IsScaled (square x) result.a result.k }
 {
-    let bits = f64::to_bits(x);
+    let bits = x.to_bits();
     let field = bits >> 52;
     let fraction = bits & 0x000f_ffff_ffff_ffff;
     if field == 0 {
-        return subnormal(fraction);
+        subnormal(fraction)
+    } else {
+        normal(field, fraction)
     }
-    normal(field, fraction)
 }
 
 // The value of q * 2^k units, where q has its 53 digits. A q of 2^53 carries into the exponent.
@@ -64,6 +62,5 @@ pub(crate) fn joined(k: u64, q: u64) -> f64
     requires { (k ≤ 1533) × (q ≤ 2 ^ 53) }
     ensures { result ≡ from_bits binary64 (k * 2 ^ 52 + q) }
 {
-    let bits = (k << 52) + q;
-    f64::from_bits(bits)
+    f64::from_bits((k << 52) + q)
 }

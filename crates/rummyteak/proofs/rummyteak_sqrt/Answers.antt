@@ -3,4 +3,4 @@
 use Rattle.rummyteak.proofs.rummyteak_sqrt.Goals as goal
 
 pub returns : goal.returns
-returns c = rw (← c.sqrt.ensures) c.tell_scalar.ensures
+returns c = rw (← c.sqrt.ensures) c.tell.ensures

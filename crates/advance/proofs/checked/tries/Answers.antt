@@ -13,14 +13,14 @@ returns-then-step_of-tol c = (tries-short _ _ _ _ _ c.loop-k.k _ _ c.loop-k.inva
 pub returns-then-limit-u : goal.returns-then-limit-u
 returns-then-limit-u c = (tries-spent _ _ _ _ _ c.loop-k.k _ _ c.loop-k.invariant.1 c.loop-k-test.true (rw c.step_of.ensures at c.if-step_of-tol.false) c.if-limit-u.true, c.loop-k.invariant.0)
 
-pub returns-in-Value : goal.returns-in-Value
-returns-in-Value c = (c.circle_of.ensures ∙ tries-found _ _ _ _ _ c.loop-k.k _ _ c.loop-k.invariant.1 c.loop-k-test.true (rw c.step_of.ensures at c.if-step_of-tol.false) (omega arith) _ c.tried_line.ensures _ c.in-Value.is, rw (c.circle_of.ensures, circle-units) (omega arith))
+pub returns-in-Ok-Some : goal.returns-in-Ok-Some
+returns-in-Ok-Some c = (c.circle_of.ensures ∙ tries-found _ _ _ _ _ c.loop-k.k _ _ c.loop-k.invariant.1 c.loop-k-test.true (rw c.step_of.ensures at c.if-step_of-tol.false) (omega arith) _ c.tried_line.ensures _ (rw c.in-Ok-Some.field-0-is at c.in-Ok-Some.is), rw (c.circle_of.ensures, circle-units) (omega arith))
 
-pub returns-in-Refused : goal.returns-in-Refused
-returns-in-Refused c = (rw c.refused.ensures (tries-refused _ _ _ _ _ c.loop-k.k _ _ c.loop-k.invariant.1 c.loop-k-test.true (rw c.step_of.ensures at c.if-step_of-tol.false) (omega arith) _ c.tried_line.ensures _ c.in-Refused.is), rw c.refused.ensures (omega arith))
+pub returns-in-Err : goal.returns-in-Err
+returns-in-Err c = ((tries-refused _ _ _ _ _ c.loop-k.k _ _ c.loop-k.invariant.1 c.loop-k-test.true (rw c.step_of.ensures at c.if-step_of-tol.false) (omega arith) _ c.tried_line.ensures _ c.in-Err.is), omega arith)
 
 pub loop-k-preserved : goal.loop-k-preserved
-loop-k-preserved c = (omega arith, tries_missed _ _ _ _ _ c.loop-k.k _ _ c.loop-k.invariant.1 c.loop-k-test.true (rw c.step_of.ensures at c.if-step_of-tol.false) (omega arith) _ c.tried_line.ensures c.in-Missed.is)
+loop-k-preserved c = (omega arith, tries_missed _ _ _ _ _ c.loop-k.k _ _ c.loop-k.invariant.1 c.loop-k-test.true (rw c.step_of.ensures at c.if-step_of-tol.false) (omega arith) _ c.tried_line.ensures (rw c.in-Ok-None.field-0-is at c.in-Ok-None.is))
 
 pub returns : goal.returns
-returns c = (rw c.refused-2.ensures (tries-over _ _ _ _ _ c.loop-k.k _ _ c.loop-k.invariant.1 (omega arith)), rw c.refused-2.ensures (omega arith))
+returns c = ((tries-over _ _ _ _ _ c.loop-k.k _ _ c.loop-k.invariant.1 (omega arith)), omega arith)

@@ -1,19 +1,22 @@
--- `remaining` goes over every point. The loop keeps that what is left, from the farthest so far, decides. Assumes nothing.
-use mathlib.Core.Path.{refl}
+use Prim.Native.Nat.{◌+◌, ◌*◌}
+use mathlib.Core.Path.{◌≡◌, refl}
 use native.Mathlib.Omega.{arith}
 use lib.Ieee.{neg, div, of_bits}
+use Rattle.errors.proofs.Laws.{handed_on}
 use Rattle.advance.proofs.remaining.Laws.{farthest-refused, farthest_on, farthest-end}
 use Rattle.advance.proofs.remaining.remaining.Goals as goal
 
-pub loop-i-init : goal.loop-i-init
+pub loop-k-init : goal.loop-k-init
 unfolding of_bits div neg
-loop-i-init c = (refl, refl)
+loop-k-init c = refl
 
-pub returns-in-Refused : goal.returns-in-Refused
-returns-in-Refused c = farthest-refused _ _ c.loop-i.i _ _ c.loop-i.invariant.1 (omega arith) _ c.farther_at.ensures _ c.in-Refused.is
+pub returns-in_err-most : goal.returns-in_err-most
+returns-in_err-most c = rw (handed_on _ _ c.from_residual.ensures.1) (farthest-refused _ _ (2 * c.loop-k.k) _ _ c.loop-k.invariant (omega arith) _ (rw c.point_at.ensures at c.farther.ensures) _ c.in_err-most.was)
 
-pub loop-i-preserved : goal.loop-i-preserved
-loop-i-preserved c = (omega arith, farthest_on _ _ c.loop-i.i _ _ c.loop-i.invariant.1 (omega arith) _ c.farther_at.ensures _ c.in-Value.is)
+pub loop-k-preserved : goal.loop-k-preserved
+loop-k-preserved c =
+    let next : 2 * (c.loop-k.k + 1) ≡ 2 * c.loop-k.k + 2 = omega arith in
+    rw next (farthest_on _ _ (2 * c.loop-k.k) _ _ c.loop-k.invariant (omega arith) _ (rw c.point_at.ensures at c.farther.ensures) _ c.in_ok-most.was)
 
 pub returns : goal.returns
-returns c = farthest-end _ _ c.loop-i.i _ _ c.loop-i.invariant.1 (omega arith)
+returns c = farthest-end _ _ (2 * c.loop-k.k) _ _ c.loop-k.invariant (omega (arith, c.args.section.now.has_points.even))

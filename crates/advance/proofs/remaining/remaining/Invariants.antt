@@ -1,13 +1,10 @@
 -- `remaining` goes over every point. The loop keeps that what is left, from the farthest so far, decides. Assumes nothing.
+use Prim.Native.Nat.{◌*◌}
 use mathlib.Core.Path.{◌≡◌}
-use Prim.Native.Nat.{◌%◌, ◌-◌}
-use lib.ListN.{length, drop}
-use Rattle.advance.specs.Advance.{farthest, remaining}
+use lib.ListN.{drop}
 use Rattle.curve2.specs.Section.{points_of}
+use Rattle.advance.specs.Advance.{farthest, remaining}
 use Rattle.advance.proofs.remaining.remaining.Given as goal
 
-abbrev pub invariant-loop-i : goal.invariant-loop-i
-invariant-loop-i l = (l.i % 2 ≡ 0) × (farthest l.ray l.most (points_of (drop l.i l.section)) ≡ remaining l.section l.ray)
-
-abbrev pub decreases-loop-i : goal.decreases-loop-i
-decreases-loop-i l = length l.section - l.i
+abbrev pub invariant-loop-k : goal.invariant-loop-k
+invariant-loop-k l = farthest l.ray l.most (points_of (drop (2 * l.k) l.section.points.now)) ≡ remaining l.section.points.now l.ray

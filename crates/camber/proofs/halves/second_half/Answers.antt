@@ -7,16 +7,13 @@ use Rattle.camber.proofs.halves.second_half.Goals as goal
 pub reverse_order-requires : goal.reverse_order-requires
 reverse_order-requires c = omega (arith, c.requires)
 
-pub inscribed_on-requires : goal.inscribed_on-requires
-inscribed_on-requires c = c.requires.has_points
-
 pub march_behind-requires : goal.march_behind-requires
-march_behind-requires c = record { has_points = c.requires.has_points; k_le_slots = (omega (arith, c.without_last-k.ensures, c.requires.count_le_slots), omega (arith, c.requires.count_le_slots, c.reverse_order.auto.store), omega (arith, c.requires.count_le_slots)) }
+march_behind-requires c = record { k_le_slots = (omega (arith, c.saturating_sub-k.ensures, c.requires), omega (arith, c.requires, c.reverse_order.auto.store), omega (arith, c.requires)) }
 
-pub returns-in-Value : goal.returns-in-Value
+pub returns-in-Ok : goal.returns-in-Ok
 unfolding second_half second_march
-returns-in-Value c = rw (length-circles _ 0 _, ← (rw (c.in-Value.is, c.reversed-back.ensures) at c.inscribed_on.ensures), ← c.reverse_order.ensures, ← c.without_last-k.ensures) c.march_behind.ensures
+returns-in-Ok c = rw (length-circles _ 0 _, ← (rw (c.in-Ok.is, c.reversed.ensures) at c.inscribed_on.ensures), ← c.reverse_order.ensures, ← c.saturating_sub-k.ensures) c.march_behind.ensures
 
-pub returns-in-Refused : goal.returns-in-Refused
+pub returns-in-Err : goal.returns-in-Err
 unfolding second_half second_march
-returns-in-Refused c = rw (length-circles _ 0 _, ← (rw (c.in-Refused.is, c.reversed-back.ensures) at c.inscribed_on.ensures), ← c.reverse_order.ensures, ← c.without_last-k.ensures, c.refused.ensures)
+returns-in-Err c = rw (length-circles _ 0 _, ← (rw (c.in-Err.is, c.reversed.ensures) at c.inscribed_on.ensures), ← c.reverse_order.ensures, ← c.saturating_sub-k.ensures, c.refused.ensures)

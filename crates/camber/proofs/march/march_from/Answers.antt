@@ -9,7 +9,7 @@ pub loop-ran-init : goal.loop-ran-init
 loop-ran-init c = (refl, waits_start _ _ _ _ _ _ _ (omega arith))
 
 pub refine-ran-requires : goal.refine-ran-requires
-refine-ran-requires c = let w = c.loop-ran.invariant.1 in record { has_points = c.requires.has_points; count_le_slots = (w.fits, omega (arith, c.requires.width_in_bounds), w.within) }
+refine-ran-requires c = let w = c.loop-ran.invariant.1 in record { count_le_slots = (w.fits, omega (arith, c.requires.width_in_bounds), w.within) }
 
 pub returns-in-Spent : goal.returns-in-Spent
 returns-in-Spent c = waits_ends _ _ _ _ _ _ _ _ _ _ c.loop-ran.invariant.1 c.refine-ran.result c.refine-ran.new.store c.refine-ran.ensures (spent-unfinished c.refine-ran.result.end c.in-Spent.is)
@@ -17,14 +17,14 @@ returns-in-Spent c = waits_ends _ _ _ _ _ _ _ _ _ _ c.loop-ran.invariant.1 c.ref
 pub returns-in-Refused : goal.returns-in-Refused
 returns-in-Refused c = waits_ends _ _ _ _ _ _ _ _ _ _ c.loop-ran.invariant.1 c.refine-ran.result c.refine-ran.new.store c.refine-ran.ensures (refused-unfinished c.refine-ran.result.end _ c.in-Refused.is)
 
-pub overflow_sub-k : goal.overflow_sub-k
-overflow_sub-k c = let g = waits_grown _ _ _ _ _ _ _ _ _ _ c.loop-ran.invariant.1 c.refine-ran.result c.refine-ran.new.store c.refine-ran.ensures (finished-listed c.refine-ran.result.end c.in-Finished.is) in omega (arith, g)
+pub overflow_sub-ran : goal.overflow_sub-ran
+overflow_sub-ran c = let g = waits_grown _ _ _ _ _ _ _ _ _ _ c.loop-ran.invariant.1 c.refine-ran.result c.refine-ran.new.store c.refine-ran.ensures (finished-listed c.refine-ran.result.end c.in-Finished.is) in omega (arith, g)
 
 pub circle_at-last-requires : goal.circle_at-last-requires
 circle_at-last-requires c = let r = waits_ready _ _ _ _ _ _ _ _ _ _ c.loop-ran.invariant.1 c.refine-ran.result c.refine-ran.new.store c.refine-ran.ensures (finished-listed c.refine-ran.result.end c.in-Finished.is) in omega (arith, r.fits, r.counted, c.requires.width_in_bounds)
 
 pub advance-requires : goal.advance-requires
-advance-requires c = let r = waits_ready _ _ _ _ _ _ _ _ _ _ c.loop-ran.invariant.1 c.refine-ran.result c.refine-ran.new.store c.refine-ran.ensures (finished-listed c.refine-ran.result.end c.in-Finished.is) in record { has_points = c.requires.has_points; units_le_limit = omega (arith, r.within) }
+advance-requires c = let r = waits_ready _ _ _ _ _ _ _ _ _ _ c.loop-ran.invariant.1 c.refine-ran.result c.refine-ran.new.store c.refine-ran.ensures (finished-listed c.refine-ran.result.end c.in-Finished.is) in record { units_le_limit = omega (arith, r.within) }
 
 pub returns-in-Ended : goal.returns-in-Ended
 returns-in-Ended c = let r = waits_ready _ _ _ _ _ _ _ _ _ _ c.loop-ran.invariant.1 c.refine-ran.result c.refine-ran.new.store c.refine-ran.ensures (finished-listed c.refine-ran.result.end c.in-Finished.is) in

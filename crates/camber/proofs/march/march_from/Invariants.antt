@@ -11,7 +11,7 @@ use Rattle.runs.specs.Run.{under_limit}
 use Rattle.camber.proofs.march.march_from.Given as goal
 
 abbrev pub invariant-loop-ran : goal.invariant-loop-ran
-invariant-loop-ran l = (length l.store ≡ length l.initial.store) × Waits l.section l.tol l.slots l.limit l.initial.store (reported l.initial.store (march_run l.section l.tol l.slots (under_limit l.limit) (refining [] (l.initial.next ∷ [])) l.units)) l.store l.n l.next l.u
+invariant-loop-ran l = (length l.store ≡ length l.initial.store) × Waits l.section.points.now l.tol l.slots l.limit l.initial.store (reported l.initial.store (march_run l.section.points.now l.tol l.slots (under_limit l.limit) (refining [] (l.fn.circle ∷ [])) l.units)) l.store l.n l.next l.u
 
 abbrev pub decreases-loop-ran : goal.decreases-loop-ran
 decreases-loop-ran l = l.slots - l.n

@@ -7,7 +7,3 @@ use Rattle.cleaning.proofs.checked.clean_points.Goals as goal
 pub returns-then-is_too_few : goal.returns-then-is_too_few
 unfolding curve_of
 returns-then-is_too_few c = made_refused _ _ _ (rw (told c.is_too_few.ensures c.if-is_too_few.true))
-
-pub returns : goal.returns
-unfolding curve_of
-returns c = rw (told c.is_too_few.ensures c.if-is_too_few.false) c.clean.ensures

@@ -1,42 +1,33 @@
 -- `reversed` makes the entry tests, and writes the points backwards. Assumes nothing.
-use native.Mathlib.Omega.{arith}
-use mathlib.Core.Path.{sym}
+use Rattle.std.proofs.Common.{sym, length, arith}
+use Rattle.std.proofs.lemmas.Result.{err_from_is_err_and}
 use borrow.Author.Tests.{ltb-false}
-use lib.ListN.{length}
-use Rattle.curve2.proofs.Laws.{entry_passed, entry_room}
-use Rattle.cleaning.proofs.Made.{first_length, made_result, made_refused}
+use Rattle.curve2.proofs.Laws.{entry_room}
+use Rattle.cleaning.proofs.Made.{made_curve, made_refused}
 use Rattle.cleaning.specs.Cleaning.{backwards}
 use Rattle.cleaning.proofs.reversed.Laws.{backwards-length}
 use Rattle.cleaning.proofs.reversed.reversed.Goals as goal
 
-pub slice_bounds-ends_meet-end : goal.slice_bounds-ends_meet-end
-slice_bounds-ends_meet-end c = let e = rw c.in-Passed.is at c.section_entry.ensures in
-    let room = ltb-false (length c.args.out.now) (length c.args.points.now) (entry_room _ _ _ (sym e)) in
-    omega (arith, c.put_backwards.auto.out)
-
-pub slice_bounds-ends_meet-end-in-Passed : goal.slice_bounds-ends_meet-end-in-Passed
-slice_bounds-ends_meet-end-in-Passed c = let e = rw c.in-Passed.is at c.section_entry.ensures in
-    sym (first_length _ _ _ _ (backwards-length _ (entry_passed _ _ _ (sym e)).points.even) c.put_backwards.ensures)
-
-pub returns-in-Passed : goal.returns-in-Passed
+pub returns-in_err-section : goal.returns-in_err-section
 unfolding backwards
-returns-in-Passed c = let e = rw c.in-Passed.is at c.section_entry.ensures in
-    let s = entry_passed _ _ _ (sym e) in
-    rw (← e) (made_result _ _ _ _ (backwards-length _ s.points.even) c.put_backwards.ensures _ _ _ (omega (arith, backwards-length c.args.points.now s.points.even)) c.ends_meet-is_closed.ensures)
-
-pub returns-in-Refused : goal.returns-in-Refused
-unfolding backwards
-returns-in-Refused c = made_refused _ _ _ (rw (← (rw c.in-Refused.is at c.section_entry.ensures)))
+returns-in_err-section c =
+    let p = err_from_is_err_and c.from_residual.result c.from_residual.ensures.1 in
+    rw (p.1, p.2) (made_refused _ _ _ (rw (← c.in_err-section.ensures.entry)))
 
 pub put_backwards-requires : goal.put_backwards-requires
 put_backwards-requires c =
-    let e = rw c.in-Passed.is at c.section_entry.ensures in
-    let s = entry_passed _ _ _ (sym e) in
-    record { points_len = s.points.even; points_in_bounds = ltb-false _ _ (entry_room _ _ _ (sym e)) }
+    let h = c.in_ok-section.ensures in
+    rw h.lent.0 (ltb-false (length c.args.out.now) _ (entry_room _ _ _ (sym h.entry)))
 
-pub ends_meet-is_closed-requires : goal.ends_meet-is_closed-requires
-ends_meet-is_closed-requires c =
-    let e = rw c.in-Passed.is at c.section_entry.ensures in
-    let s = entry_passed _ _ _ (sym e) in
-    let l = first_length _ _ _ _ (backwards-length _ s.points.even) c.put_backwards.ensures in
-    record { points_len = rw l s.points.even; in_bounds = rw l (omega (arith, s.points.least)) }
+pub curve_held-requires-clause-room : goal.curve_held-requires-clause-room
+curve_held-requires-clause-room c =
+    let h = c.in_ok-section.ensures in
+    omega (arith, ltb-false (length c.args.out.now) (length c.args.points.now) (entry_room _ _ _ (sym h.entry)), c.put_backwards.auto.out)
+
+pub returns : goal.returns
+unfolding backwards
+returns c =
+    let h = c.in_ok-section.ensures in
+    let even = rw h.lent.0 at c.in_ok-section.section.has_points.even in
+    let put = rw h.lent.0 at c.put_backwards.ensures in
+    rw (← h.entry) (made_curve _ _ _ put _ _ (omega (arith, backwards-length c.args.points.now even)) _ c.curve_held.ensures)

@@ -1,14 +1,17 @@
--- `has_bad_center` goes over the circles in use that the store holds. Assumes nothing.
-use native.Mathlib.Omega.{arith}
-use Rattle.geometry.proofs.CentersLaws.{center-bad, center_good, centers_good}
-use Rattle.errors.proofs.Laws.{told}
+-- `has_bad_center` asks the circles in use that the store holds. Assumes nothing.
+use Rattle.std.proofs.Common.{◌∙◌, refl, rules, tests, arith}
+use Rattle.std.proofs.lemmas.Iterator.{YieldsList-from_range}
+use Rattle.std.proofs.lemmas.Iterator.Search.{any_from_yields_List}
+use Rattle.inscribed.specs.Circles.{center}
+use Rattle.inscribed.specs.Store.{circle_at, circles_of}
+use Rattle.inscribed.proofs.StoreLaws.{list_any-circles}
+use Rattle.geometry.specs.Camber.{bad_point}
+use Rattle.geometry.proofs.CentersLaws.{any_bad_center_is}
 use Rattle.geometry.proofs.centers.has_bad_center.Goals as goal
 
-pub returns-then-is_bad_point : goal.returns-then-is_bad_point
-returns-then-is_bad_point c = center-bad _ _ _ _ c.loop-k.invariant.1 c.loop-k-test.true (told (rw (c.center-p.ensures, c.circle_at-c.ensures) at c.is_bad_point.ensures) c.if-is_bad_point.true)
-
-pub loop-k-preserved : goal.loop-k-preserved
-loop-k-preserved c = (omega arith, center_good _ _ _ _ c.loop-k.invariant.1 c.loop-k-test.true (told (rw (c.center-p.ensures, c.circle_at-c.ensures) at c.is_bad_point.ensures) c.if-is_bad_point.false))
-
 pub returns : goal.returns
-returns c = centers_good _ _ _ _ c.loop-k.invariant.1 c.loop-k-test.false
+returns c =
+    let ns = c.args.store.now in
+    let n = c.min-n.result in
+    let asked = any_from_yields_List (λ k. bad_point (center (circle_at ns k))) _ _ _ c.any.ensures.ran (YieldsList-from_range 0 n n refl (omega arith)) (λ x b q k. search (rules, tests)) in
+    rw (← c.slots_in.ensures, ← c.min-n.ensures) (asked ∙ list_any-circles (λ d. bad_point (center d)) ns 0 n ∙ any_bad_center_is (circles_of ns n))

@@ -1,11 +1,19 @@
--- `reverse_order_only` turns the order. Assumes nothing.
-use mathlib.Core.Path.{refl}
+use mathlib.Core.Path.{◌≡◌}
+use Prim.Native.Nat.{◌+◌, ◌-◌}
 use native.Mathlib.Omega.{arith}
-use Rattle.inscribed.proofs.TurningLaws.{turn_start, turn_step}
+use Rattle.inscribed.proofs.TurningLaws.{turn_start, turn_step, turn_over}
 use Rattle.inscribed.proofs.checked.reverse_order_only.Goals as goal
 
 pub loop-i-init : goal.loop-i-init
-loop-i-init c = (omega arith, refl, turn_start _ _ (omega (arith, c.requires)))
+loop-i-init c = turn_start _ _ (omega (arith, c.requires))
 
 pub loop-i-preserved : goal.loop-i-preserved
-loop-i-preserved c = (omega arith, omega arith, rw (c.put_circle-in-loop-i.ensures, c.put_circle.ensures, c.circle_at-b.ensures, c.circle_at-a.ensures) (turn_step _ _ _ _ _ c.loop-i.invariant.2 c.loop-i-test.true))
+loop-i-preserved c =
+    let n = c.args.count in
+    let i = c.loop-i.i in
+    let at : n - 1 - i ≡ n - i - 1 = omega arith in
+    let next : n - (i + 1) ≡ n - i - 1 = omega arith in
+    rw (c.put_circle-in-loop-i.ensures, c.put_circle.ensures, c.circle_at-b.ensures, c.circle_at-a.ensures, at, next) (turn_step _ _ _ _ _ c.loop-i.invariant (omega arith))
+
+pub returns : goal.returns
+returns c = turn_over _ _ _ _ _ c.loop-i.invariant (omega arith)

@@ -1,14 +1,14 @@
--- `has_bad_circle` goes over the circles in use that the store holds. Assumes nothing.
-use native.Mathlib.Omega.{arith}
-use Rattle.inscribed.proofs.StoreLaws.{circle-bad, circle_good, circles_good}
-use Rattle.errors.proofs.Laws.{told}
+-- `has_bad_circle` asks the circles in use that the store holds. Assumes nothing.
+use Rattle.std.proofs.Common.{◌∙◌, refl, rules, tests, arith}
+use Rattle.std.proofs.lemmas.Iterator.{YieldsList-from_range}
+use Rattle.std.proofs.lemmas.Iterator.Search.{any_from_yields_List}
+use Rattle.inscribed.specs.Store.{bad_circle, circle_at, circles_of}
+use Rattle.inscribed.proofs.StoreLaws.{list_any-circles, any_bad_is}
 use Rattle.inscribed.proofs.store.has_bad_circle.Goals as goal
 
-pub returns-then-is_bad_circle : goal.returns-then-is_bad_circle
-returns-then-is_bad_circle c = circle-bad _ _ _ _ c.loop-k.invariant.1 c.loop-k-test.true (told (rw c.circle_at.ensures at c.is_bad_circle.ensures) c.if-is_bad_circle.true)
-
-pub loop-k-preserved : goal.loop-k-preserved
-loop-k-preserved c = (omega arith, circle_good _ _ _ _ c.loop-k.invariant.1 c.loop-k-test.true (told (rw c.circle_at.ensures at c.is_bad_circle.ensures) c.if-is_bad_circle.false))
-
 pub returns : goal.returns
-returns c = circles_good _ _ _ _ c.loop-k.invariant.1 c.loop-k-test.false
+returns c =
+    let ns = c.args.store.now in
+    let n = c.min.result in
+    let asked = any_from_yields_List (λ k. bad_circle (circle_at ns k)) _ _ _ c.any.ensures.ran (YieldsList-from_range 0 n n refl (omega arith)) (λ x b q k. search (rules, tests)) in
+    rw (← c.slots_in.ensures, ← c.min.ensures) (asked ∙ list_any-circles bad_circle ns 0 n ∙ any_bad_is (circles_of ns n))

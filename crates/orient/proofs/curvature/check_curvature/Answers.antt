@@ -1,11 +1,14 @@
--- `check_curvature` finds the upper side, then counts the votes. Assumes nothing.
-use Rattle.orient.specs.Curvature.{curvature_on}
+use mathlib.Core.Path.{◌∙◌}
+use Rattle.std.proofs.Common.{rules}
+use Rattle.inscribed.specs.Store.{circle_at}
+use Rattle.orient.specs.Curvature.{side_vote, curvature_on}
+use Rattle.orient.proofs.Votes.{majority_of_circles}
 use Rattle.orient.proofs.curvature.check_curvature.Goals as goal
 
-pub returns-in-Value : goal.returns-in-Value
+pub returns : goal.returns
 unfolding curvature_on
-returns-in-Value c = rw (← (rw c.in-Value.is at c.is_upper_to_right.ensures)) c.check_sides.ensures
-
-pub returns-in-Refused : goal.returns-in-Refused
-unfolding curvature_on
-returns-in-Refused c = rw (← (rw c.in-Refused.is at c.is_upper_to_right.ensures))
+returns c =
+    let ns = c.args.circles.now.store.now in
+    let vote = side_vote c.args.curve.now.points.now c.in_ok-right.right in
+    rw (← c.in_ok-right.ensures)
+    (c.is_majority.ensures (λ k. vote (circle_at ns k)) (λ k r h p. search rules) ∙ majority_of_circles vote ns c.args.circles.now.count)

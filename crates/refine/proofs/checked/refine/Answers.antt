@@ -8,6 +8,6 @@ pub returns-then-slots-eq0 : goal.returns-then-slots-eq0
 returns-then-slots-eq0 c = let e : c.args.count ≡ 0 = omega arith in
     rw (c.refused.ensures, e) (empty_refused _ _ _ _ _ _ _ (omega arith) c.if-slots-eq0.true)
 
-pub returns : goal.returns
-returns c = let e : c.args.count ≡ 0 = omega arith in
+pub returns-else-slots-eq0 : goal.returns-else-slots-eq0
+returns-else-slots-eq0 c = let e : c.args.count ≡ 0 = omega arith in
     rw (c.finished.ensures, c.put_circle.ensures, e) (empty_accepted _ _ _ _ _ _ _ (omega arith) c.if-slots-eq0.false)

@@ -1,75 +1,64 @@
 -- `refine_behind` is the refinement run from the circles in its store on, where there is one. Assumes nothing.
-use Prim.Native.Nat.{◌-◌}
-use mathlib.Core.Path.{◌≡◌, refl, sym}
+use mathlib.Core.Path.{refl, sym}
 use native.Mathlib.Omega.{arith}
-use lib.ListN.{length-set}
-use Rattle.refine.proofs.RefineLaws.{stack, length_stack, stack_push, stack_top, loop_start, loop_finished, loop_spent, loop_refused, loop_added, loop_accepted, room_to_wait, room_to_take}
+use Prim.Native.Nat.{◌<◌}
+use lib.ListN.{length, length-reverse}
+use Rattle.std.proofs.lemmas.Bool.{false≢true}
+use Rattle.std.proofs.lemmas.List.{nil_from_length}
+use Rattle.refine.proofs.RefineLaws.{newest, loop_start, loop_finished, loop_spent, loop_refused, loop_added, loop_accepted, room_to_wait, room_to_take}
 use Rattle.refine.proofs.waiting.refine_behind.Goals as goal
 
-pub loop-w-init : goal.loop-w-init
-loop-w-init c = (omega arith, omega arith, omega arith, omega arith, refl, refl, loop_start _ _ _ _ _ _ _ _ (omega arith) (omega arith))
+pub loop-top-init : goal.loop-top-init
+loop-top-init c = rw (c.push.ensures.items, c.new-waiting.ensures) (omega arith, omega arith, omega arith, omega arith, refl, loop_start _ _ _ _ _ _ _ _ (omega arith) (omega arith))
 
 pub returns-then-limit-u : goal.returns-then-limit-u
-unfolding stack
-returns-then-limit-u c = let at = c.loop-w in
+returns-then-limit-u c = let at = c.loop-top in
     rw c.spent.ensures
-    (loop_spent _ _ _ _ _ _ _ _ _ _ _ (rw (stack_top at.waiting at.w c.loop-w-test.true) at at.invariant.6) (λ e. omega arith) c.if-limit-u.true)
+    (loop_spent _ _ _ _ _ _ _ _ _ _ _ (rw (newest _ _ _ c.in-Some.ensures.items) at at.invariant.5) (λ e. omega arith) c.if-limit-u.true)
 
-pub returns-in-Refused : goal.returns-in-Refused
-unfolding stack
-returns-in-Refused c = let at = c.loop-w in
-    rw c.refused.ensures
-    (loop_refused _ _ _ _ _ _ _ _ _ _ _ (rw (stack_top at.waiting at.w c.loop-w-test.true) at at.invariant.6) (λ e. omega arith) (omega arith) _ (omega (arith, length_stack at.waiting (at.w - 1))) _ (sym (rw (c.in-Refused.is, c.circle_at-last.ensures) at c.tried.ensures)))
+pub push-requires-in-Ok-Some-2 : goal.push-requires-in-Ok-Some-2
+push-requires-in-Ok-Some-2 c = (omega arith, omega (arith, c.len.ensures.value, c.push-in-Ok-Some.ensures.len, room_to_wait _ _ _ _ _ (sym (rw (c.in-Ok-Some.is, c.in-Ok-Some.field-0-is) at c.tried.ensures))))
 
-pub offset_bounds-waiting-w : goal.offset_bounds-waiting-w
-offset_bounds-waiting-w c = omega (arith, room_to_wait _ _ _ _ _ (sym (rw c.in-Value.is at c.tried.ensures)))
+pub loop-top-smaller-in-Ok-Some : goal.loop-top-smaller-in-Ok-Some
+loop-top-smaller-in-Ok-Some c = omega (arith, c.in-Some.ensures.len, c.push-in-Ok-Some.ensures.len, c.push-in-Ok-Some-2.ensures.len, c.len.ensures.value, room_to_wait _ _ _ _ _ (sym (rw (c.in-Ok-Some.is, c.in-Ok-Some.field-0-is) at c.tried.ensures)))
 
-pub bounds-waiting-w : goal.bounds-waiting-w
-bounds-waiting-w c = omega (arith, room_to_wait _ _ _ _ _ (sym (rw c.in-Value.is at c.tried.ensures)))
-
-pub overflow_add-w : goal.overflow_add-w
-overflow_add-w c = omega (arith, room_to_wait _ _ _ _ _ (sym (rw c.in-Value.is at c.tried.ensures)))
-
-pub loop-w-smaller-in-Value : goal.loop-w-smaller-in-Value
-loop-w-smaller-in-Value c = omega (arith, room_to_wait _ _ _ _ _ (sym (rw c.in-Value.is at c.tried.ensures)))
-
-pub loop-w-preserved-in-Value : goal.loop-w-preserved-in-Value
-loop-w-preserved-in-Value c = let at = c.loop-w in
-    let room = room_to_wait _ _ _ _ _ (sym (rw c.in-Value.is at c.tried.ensures)) in (
-      omega arith,
+pub loop-top-preserved-in-Ok-Some : goal.loop-top-preserved-in-Ok-Some
+loop-top-preserved-in-Ok-Some c = let at = c.loop-top in
+    let room = room_to_wait _ _ _ _ _ (sym (rw (c.in-Ok-Some.is, c.in-Ok-Some.field-0-is) at c.tried.ensures)) in (
+      omega (arith, c.push-in-Ok-Some.ensures.len, c.push-in-Ok-Some-2.ensures.len, c.len.ensures.value),
       omega arith,
       omega arith,
       at.invariant.3,
       at.invariant.4,
-      simp length-set at.invariant.5,
-      rw (stack_push at.waiting at.w _ (omega arith), stack_top at.waiting at.w c.loop-w-test.true)
-          (loop_added _ _ _ _ _ _ _ _ _ _ _ (rw (stack_top at.waiting at.w c.loop-w-test.true) at at.invariant.6) (λ e. omega arith) (omega arith) _ (omega (arith, length_stack at.waiting (at.w - 1))) _ (sym (rw (c.in-Value.is, c.circle_at-last.ensures) at c.tried.ensures))),
+      rw (newest _ _ _ c.push-in-Ok-Some-2.ensures.items, newest _ _ _ c.push-in-Ok-Some.ensures.items)
+          (loop_added _ _ _ _ _ _ _ _ _ _ _ (rw (newest _ _ _ c.in-Some.ensures.items) at at.invariant.5) (λ e. omega arith) (omega arith) _ (omega (arith, length-reverse c.pop.new.self.items, c.len.ensures.value)) _ (sym (rw (c.in-Ok-Some.is, c.in-Ok-Some.field-0-is, c.circle_at-last.ensures) at c.tried.ensures))),
     )
 
 pub put_circle-requires : goal.put_circle-requires
-put_circle-requires c = omega (arith, room_to_take _ _ _ _ (sym (rw c.in-Nothing.is at c.tried.ensures)))
+put_circle-requires c = omega (arith, room_to_take _ _ _ _ (sym (rw (c.in-Ok-None.is, c.in-Ok-None.field-0-is) at c.tried.ensures)))
 
-pub overflow_add-n : goal.overflow_add-n
-overflow_add-n c = omega (arith, room_to_take _ _ _ _ (sym (rw c.in-Nothing.is at c.tried.ensures)))
+pub loop-top-smaller : goal.loop-top-smaller
+loop-top-smaller c = omega (arith, c.in-Some.ensures.len, room_to_take _ _ _ _ (sym (rw (c.in-Ok-None.is, c.in-Ok-None.field-0-is) at c.tried.ensures)))
 
-pub loop-w-smaller : goal.loop-w-smaller
-loop-w-smaller c = omega (arith, room_to_take _ _ _ _ (sym (rw c.in-Nothing.is at c.tried.ensures)))
-
-pub loop-w-preserved : goal.loop-w-preserved
-loop-w-preserved c = let at = c.loop-w in
-    let room = room_to_take _ _ _ _ (sym (rw c.in-Nothing.is at c.tried.ensures)) in (
-      omega arith,
+pub loop-top-preserved : goal.loop-top-preserved
+loop-top-preserved c = let at = c.loop-top in
+    let room = room_to_take _ _ _ _ (sym (rw (c.in-Ok-None.is, c.in-Ok-None.field-0-is) at c.tried.ensures)) in (
+      omega (arith, c.in-Some.ensures.len),
       omega arith,
       omega arith,
       omega arith,
       omega (arith, c.put_circle.auto.store),
-      at.invariant.5,
       rw c.put_circle.ensures
-          (loop_accepted _ _ _ _ _ _ _ _ _ _ _ (rw (stack_top at.waiting at.w c.loop-w-test.true) at at.invariant.6) (λ e. omega arith) (omega arith) _ (omega (arith, length_stack at.waiting (at.w - 1))) (sym (rw (c.in-Nothing.is, c.circle_at-last.ensures) at c.tried.ensures))),
+          (loop_accepted _ _ _ _ _ _ _ _ _ _ _ (rw (newest _ _ _ c.in-Some.ensures.items) at at.invariant.5) (λ e. omega arith) (omega arith) _ (omega (arith, length-reverse c.pop.new.self.items, c.len.ensures.value)) (sym (rw (c.in-Ok-None.is, c.in-Ok-None.field-0-is, c.circle_at-last.ensures) at c.tried.ensures))),
     )
 
+pub returns-in-Err : goal.returns-in-Err
+returns-in-Err c = let at = c.loop-top in
+    rw c.refused.ensures
+    (loop_refused _ _ _ _ _ _ _ _ _ _ _ (rw (newest _ _ _ c.in-Some.ensures.items) at at.invariant.5) (λ e. omega arith) (omega arith) _ (omega (arith, length-reverse c.pop.new.self.items, c.len.ensures.value)) _ (sym (rw (c.in-Err.is, c.circle_at-last.ensures) at c.tried.ensures)))
+
 pub returns : goal.returns
-unfolding stack
-returns c = let at = c.loop-w in
-    let e : at.w ≡ 0 = omega arith in
-    rw c.finished.ensures (loop_finished _ _ _ _ _ _ _ _ _ (rw e at at.invariant.6))
+returns c = let at = c.loop-top in
+    let none_waits : 0 < length at.waiting.items → ⊥ = λ h. false≢true (c.in_default.ensures.variant.1 h) in
+    let none = nil_from_length at.waiting.items (omega (arith, none_waits)) in
+    rw c.finished.ensures (loop_finished _ _ _ _ _ _ _ _ _ (rw none at at.invariant.5))

@@ -3,14 +3,14 @@ use Rattle.std.proofs.Common.{◌∙◌, arith}
 use Rattle.root.proofs.digits.Rounded.{word_rooted, near_up, near_down, rounded}
 use Rattle.root.proofs.digits.root_above_zero.Goals as goal
 
-pub returns-then-q-r : goal.returns-then-q-r
-returns-then-q-r c =
-    let scaled = c.split-s.ensures in
-    let rooted = word_rooted scaled c.root_of_word-root.ensures in
-    c.joined.ensures ∙ rounded c.args.x c.requires _ _ _ scaled (near_up rooted c.if-q-r.true)
+pub returns-then-root : goal.returns-then-root
+returns-then-root c =
+    let scaled = c.split-scaled.ensures in
+    let rooted = word_rooted scaled c.root_of_word-root.ensures.rooted in
+    c.joined.ensures ∙ rounded c.args.x c.requires _ _ _ scaled (near_up rooted c.if-root.true)
 
-pub returns : goal.returns
-returns c =
-    let scaled = c.split-s.ensures in
-    let rooted = word_rooted scaled c.root_of_word-root.ensures in
-    c.joined-2.ensures ∙ rounded c.args.x c.requires _ _ _ scaled (near_down (omega (arith, scaled.low)) rooted c.if-q-r.false)
+pub returns-else-root : goal.returns-else-root
+returns-else-root c =
+    let scaled = c.split-scaled.ensures in
+    let rooted = word_rooted scaled c.root_of_word-root.ensures.rooted in
+    c.joined-else-root.ensures ∙ rounded c.args.x c.requires _ _ _ scaled (near_down (omega (arith, scaled.low)) rooted c.if-root.false)

@@ -1,7 +1,7 @@
 -- `estimate::estimate`: the patterns are no NaN's, and the result is a fraction under a leading digit. Assumes nothing.
 use Rattle.std.proofs.Common.{ℕ, ◌-◌, ◌^◌, ◌<◌, arith}
 use lib.Bits.{bit_and, bit_xor, mask_lt, xor_lt}
-use Rattle.root.proofs.digits.Fields.{no_nan, same_number}
+use Rattle.root.proofs.digits.Fields.{no_nan}
 use Rattle.root.proofs.estimate.estimate.Goals as goal
 
 -- the digits of the fraction, and the last of the exponent, changed
@@ -13,6 +13,3 @@ float_from_bits-m c = no_nan _ (omega (arith, changed c.args.bits))
 
 pub float_from_bits-w : goal.float_from_bits-w
 float_from_bits-w c = no_nan _ (omega (arith, changed c.args.bits))
-
-pub float_to_bits-result : goal.float_to_bits-result
-float_to_bits-result c = same_number c.root_of-s.result c.if-s.false

@@ -3,4 +3,4 @@
 use Rattle.rummyteak.proofs.circle.rummyteak_inscribed_from_crossing.Goals as goal
 
 pub returns : goal.returns
-returns c = rw (← c.inscribed_from_crossing.ensures) c.tell_circle.ensures
+returns c = rw (← (rw c.line-line.ensures at c.inscribed_from_crossing.ensures)) c.tell_circle.ensures

@@ -3,4 +3,4 @@
 use Rattle.rummyteak.proofs.circle.rummyteak_try_inscribed.Goals as goal
 
 pub returns : goal.returns
-returns c = rw (← c.try_inscribed.ensures) c.tell_circle_on_line.ensures
+returns c = rw (← (rw c.line-line.ensures at c.try_inscribed.ensures)) c.tell_circle_on_line.ensures

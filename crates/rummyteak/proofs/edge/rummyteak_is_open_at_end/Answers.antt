@@ -3,4 +3,4 @@
 use Rattle.rummyteak.proofs.edge.rummyteak_is_open_at_end.Goals as goal
 
 pub returns : goal.returns
-returns c = rw (← c.is_open_at_end.ensures) c.tell_bool.ensures
+returns c = rw (← c.is_open_at_end.ensures) c.tell.ensures

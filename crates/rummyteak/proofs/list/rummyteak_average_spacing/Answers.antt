@@ -3,4 +3,4 @@
 use Rattle.rummyteak.proofs.list.rummyteak_average_spacing.Goals as goal
 
 pub returns : goal.returns
-returns c = rw (← c.average_spacing.ensures) c.tell_scalar.ensures
+returns c = rw (← c.average_spacing.ensures) c.tell.ensures

@@ -3,4 +3,4 @@
 use Rattle.rummyteak.proofs.list.rummyteak_index_of_tmax.Goals as goal
 
 pub returns : goal.returns
-returns c = rw (← c.index_of_tmax.ensures) c.tell_place.ensures
+returns c = rw (← c.index_of_tmax.ensures) c.tell.ensures

@@ -3,4 +3,4 @@
 use Rattle.rummyteak.proofs.section.rummyteak_crossing_line.Goals as goal
 
 pub returns : goal.returns
-returns c = rw (← c.crossing_line.ensures) c.tell_crossing.ensures
+returns c = rw (← (rw c.line-line.ensures at c.crossing_line.ensures)) c.tell_crossing.ensures

@@ -3,4 +3,4 @@
 use Rattle.rummyteak.proofs.section.rummyteak_is_closed.Goals as goal
 
 pub returns : goal.returns
-returns c = rw (← c.is_closed.ensures) c.tell_bool.ensures
+returns c = rw (← c.is_closed.ensures) c.tell.ensures

@@ -3,4 +3,4 @@
 use Rattle.rummyteak.proofs.section.rummyteak_length.Goals as goal
 
 pub returns : goal.returns
-returns c = rw (← c.length.ensures) c.tell_scalar.ensures
+returns c = rw (← c.length.ensures) c.tell.ensures

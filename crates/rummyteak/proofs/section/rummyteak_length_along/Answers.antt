@@ -3,4 +3,4 @@
 use Rattle.rummyteak.proofs.section.rummyteak_length_along.Goals as goal
 
 pub returns : goal.returns
-returns c = rw (← c.length_along.ensures) c.tell_scalar.ensures
+returns c = rw (← c.length_along.ensures) c.tell.ensures

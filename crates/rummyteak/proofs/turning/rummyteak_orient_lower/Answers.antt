@@ -3,4 +3,4 @@
 use Rattle.rummyteak.proofs.turning.rummyteak_orient_lower.Goals as goal
 
 pub returns : goal.returns
-returns c = record { swapped_after = rw (← c.apply.ensures.listed) c.tell_bool.ensures; store_after = c.apply.ensures.output }
+returns c = record { swapped_after = rw (← c.apply.ensures.listed) c.tell.ensures; store_after = c.apply.ensures.output }

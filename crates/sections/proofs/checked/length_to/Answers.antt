@@ -5,4 +5,4 @@ use Rattle.sections.proofs.LengthLaws.{length_start}
 use Rattle.sections.proofs.checked.length_to.Goals as goal
 
 pub length_on-requires : goal.length_on-requires
-length_on-requires c = (omega arith, c.requires.1, sym (length_start _ (omega arith)))
+length_on-requires c = (omega arith, c.requires, sym (length_start _ (omega arith)))

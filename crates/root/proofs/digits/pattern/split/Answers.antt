@@ -20,5 +20,5 @@ pub normal-requires : goal.normal-requires
 normal-requires c = let x = c.args.x in
     (omega arith, (bits_high x c.well_formed.0.1 c.requires c.if-field-eq0.false).0, mask_lt (to_bits binary64 x) 52)
 
-pub returns : goal.returns
-returns c = rescaled (square-high c.args.x c.well_formed.0.1 c.requires c.if-field-eq0.false) c.normal.ensures
+pub returns-else-field-eq0 : goal.returns-else-field-eq0
+returns-else-field-eq0 c = rescaled (square-high c.args.x c.well_formed.0.1 c.requires c.if-field-eq0.false) c.normal.ensures

@@ -1,9 +1,0 @@
--- `greater` is the greater of two numbers. Assumes nothing.
-
-use Rattle.circles.proofs.checked.greater.Goals as goal
-
-pub returns-then-a-b : goal.returns-then-a-b
-returns-then-a-b c = rw c.if-a-b.true
-
-pub returns-else-a-b : goal.returns-else-a-b
-returns-else-a-b c = rw c.if-a-b.false
