@@ -148,7 +148,7 @@ fn answer(kind: u64, seed: u64) -> Option<Left> {
     Some(left)
 }
 
-// What is asked, by kind: the functions' names, as crates/cases/src/replay.rt has them.
+// What is asked, by kind: the functions' names, as crates/cases/src/asked.rt has them.
 const NAMES: [&str; KINDS as usize] = [
     "crossing_line",
     "try_inscribed",

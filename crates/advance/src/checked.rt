@@ -11,6 +11,7 @@ use inscribed::Inscribed;
 use line2::surface2::SurfacePoint2;
 use queries::Crossing;
 use refine::RunEnd;
+use runs::Units;
 
 // How many fractions of a radius are tried.
 const FRACTIONS: usize = 4;
@@ -27,44 +28,35 @@ fn circle_of(section: &Curve2<'_>, tol: f64, x: Crossing, units: u32) -> Advance
 }
 
 // Tries the four fractions along the ray, each crossing for one unit.
-fn tries(
-    section: &Curve2<'_>,
-    tol: f64,
-    c: Inscribed,
-    ray: SurfacePoint2,
-    limit: u32,
-    units: u32,
-) -> Advanced
-    requires units_le_limit { units ≤ limit }
-    ensures { (listed_advanced result ≡ tries_from section.now.points.now tol c ray (under_limit limit) 4 0 units) × (outcome_units (listed_advanced result) ≤ limit) }
+fn tries(section: &Curve2<'_>, tol: f64, c: Inscribed, ray: SurfacePoint2, units: Units) -> Advanced
+    ensures { (listed_advanced result ≡ tries_from section.now.points.now tol c ray (under_limit units.limit) 4 0 units.taken) × (outcome_units (listed_advanced result) ≤ units.limit) }
 {
     let mut u = units;
     for k in 0..FRACTIONS {
         if steps::step_of(c, k) < tol {
-            return Advanced::Ended(RunEnd::Finished, u);
+            return Advanced::Ended(RunEnd::Finished(()), u.taken);
         }
-        if limit <= u {
-            return Advanced::Ended(RunEnd::Spent, u);
+        if u.is_spent() {
+            return Advanced::Ended(RunEnd::Spent, u.taken);
         }
-        u += 1;
+        u = u.take();
         match steps::tried_line(section, c, ray, k) {
             Ok(None) => {}
-            Ok(Some(x)) => return circle_of(section, tol, x, u),
-            Err(r) => return Advanced::Ended(RunEnd::Refused(r), u),
+            Ok(Some(x)) => return circle_of(section, tol, x, u.taken),
+            Err(r) => return Advanced::Ended(RunEnd::Refused(r), u.taken),
         }
     }
-    Advanced::Ended(RunEnd::Refused(Refusal::NoAdvance), u)
+    Advanced::Ended(RunEnd::Refused(Refusal::NoAdvance), u.taken)
 }
 
-// One advance from c of a checked section; `units` have been taken before.
+// One advance from c of a checked section, with the units taken before.
 #[tactic(auto, unfolding(crate::specs::Code::ahead_outcome))]
-pub fn advance(section: &Curve2<'_>, tol: f64, c: Inscribed, limit: u32, units: u32) -> Advanced
-    requires units_le_limit { units ≤ limit }
-    ensures { (listed_advanced result ≡ advance_outcome section.now.points.now tol c (under_limit limit) units) × (outcome_units (listed_advanced result) ≤ limit) }
+pub fn advance(section: &Curve2<'_>, tol: f64, c: Inscribed, units: Units) -> Advanced
+    ensures { (listed_advanced result ≡ advance_outcome section.now.points.now tol c (under_limit units.limit) units.taken) × (outcome_units (listed_advanced result) ≤ units.limit) }
 {
     match remaining::look_ahead(section, c) {
-        Ok(None) => Advanced::Ended(RunEnd::Finished, units),
-        Ok(Some(ray)) => tries(section, tol, c, ray, limit, units),
-        Err(r) => Advanced::Ended(RunEnd::Refused(r), units),
+        Ok(None) => Advanced::Ended(RunEnd::Finished(()), units.taken),
+        Ok(Some(ray)) => tries(section, tol, c, ray, units),
+        Err(r) => Advanced::Ended(RunEnd::Refused(r), units.taken),
     }
 }

@@ -3,7 +3,7 @@ ghost use Rattle.std.specs.Prelude.{◌≡◌};
 ghost use Rattle.advance.specs.Advance.{farther, remaining, look_ahead};
 ghost use Rattle.advance.specs.Code.{listed_ahead};
 
-use curve2::checked::{Curve2, point_at};
+use curve2::checked::{Curve2, vertex_at};
 use errors::Refusal;
 use inscribed::Inscribed;
 use line2::surface2::SurfacePoint2;
@@ -27,7 +27,7 @@ fn remaining(section: &Curve2<'_>, ray: SurfacePoint2) -> Result<f64, Refusal>
 {
     let mut most = f64::NEG_INFINITY;
     for k in 0..section.points.len() / 2 {
-        most = farther(ray, most, point_at(section.points, 2 * k))?;
+        most = farther(ray, most, vertex_at(section.points, k))?;
     }
     Ok(most)
 }

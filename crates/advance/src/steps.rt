@@ -10,7 +10,7 @@ use line2::surface2::SurfacePoint2;
 use points::AngleDir;
 use queries::Crossing;
 
-// Fraction number k of a radius.
+// Fraction number k of a radius. No table: a table would ask that k is below 4.
 fn fraction_of(k: usize) -> f64
     ensures { result ≡ fraction k }
 {

@@ -6,7 +6,6 @@ use native.Mathlib.Omega.{arith}
 use lib.ListN.{length}
 use lib.Ieee.{Float}
 use Rattle.errors.specs.Lists.{last_of}
-use Rattle.errors.specs.declared.Refusal.{Refusal}
 use Rattle.runs.specs.Run.{ended, Final, under_limit}
 use Rattle.inscribed.specs.Store.{circle_at, circles_from, circles_of, all_numbers, stored}
 use Rattle.inscribed.specs.declared.Inscribed.{Inscribed}
@@ -40,7 +39,7 @@ module _ (ns : List Float) (tol : Float) (slots limit : ℕ) (old : List Float) 
     pub holds : store ≡ stored (first ∷ others) old
     pub left : outcome_report ns tol slots limit old (first ∷ others) (advance_outcome ns tol (last_of first others) (under_limit limit) u) ≡ target
 
-  module _ (store : List Float) (n : ℕ) (next : Inscribed) (u : ℕ) (w : Waits store n next u) (r : Run) (after : List Float)
+  module _ (store : List Float) (n : ℕ) (next : Inscribed) (u : ℕ) (w : Waits store n next u) (r : Run (Unit {0})) (after : List Float)
       (is : listed_run r after ≡ reported store (refine_run ns tol slots (under_limit limit) (circles_of store n) (next ∷ []) u)) where
     abbrev cs : List Inscribed
     cs = circles_of store n
@@ -110,7 +109,7 @@ module _ (ns : List Float) (tol : Float) (slots limit : ℕ) (old : List Float) 
       outcome_is : outcome_report ns tol slots limit old (is.first ∷ is.others) (listed_advanced a) ≡ target
       outcome_is = ap (λ (o : Outcome). outcome_report ns tol slots limit old (is.first ∷ is.others) o) (said ∙ ap (λ (c : Inscribed). advance_outcome ns tol c (under_limit limit) u) ready_last) ∙ is.left
 
-      pub ready_ends : (e : RunEnd) (v : ℕ) → listed_advanced a ≡ ending (listed_end e) v → ◌≡◌ {A = RunReport} (record { ending = listed_end e; count = n; units = v; store = store }) target
+      pub ready_ends : (e : RunEnd (Unit {0})) (v : ℕ) → listed_advanced a ≡ ending (listed_end e) v → ◌≡◌ {A = RunReport} (record { ending = listed_end e; count = n; units = v; store = store }) target
       ready_ends e v q = rw (is.holds, is.counted) (rw q at outcome_is)
 
       pub ready_next : (d : Inscribed) (v : ℕ) → listed_advanced a ≡ going d v → v ≤ limit → Waits store n d v
@@ -124,15 +123,10 @@ unfolding circles_from stored all_numbers
 waits_start ns tol slots limit old c u h = record { fits = omega arith; within = h; holds = refl; left = refl }
 
 -- an ending that isn't "finished"
-pub spent-unfinished : (e : RunEnd) → e ≡ RunEnd.Spent → listed_end e ≡ ended finished → ⊥
-spent-unfinished RunEnd.Finished p q = let z : ◌≡◌ {A = ℕ} 0 1 = cc in absurd (omega arith)
-spent-unfinished RunEnd.Spent p q = let z : ◌≡◌ {A = ℕ} 0 1 = cc in absurd (omega arith)
-spent-unfinished (RunEnd.Refused r) p q = let z : ◌≡◌ {A = ℕ} 0 1 = cc in absurd (omega arith)
+pub other-unfinished : (e : RunEnd (Unit {0})) → ((x : Unit {0}) → e ≡ RunEnd.Finished x → ⊥) → listed_end e ≡ ended finished → ⊥
+other-unfinished (RunEnd.Finished done) f q = f done refl
+other-unfinished RunEnd.Spent f q = let z : ◌≡◌ {A = ℕ} 0 1 = cc in absurd (omega arith)
+other-unfinished (RunEnd.Refused r) f q = let z : ◌≡◌ {A = ℕ} 0 1 = cc in absurd (omega arith)
 
-pub refused-unfinished : (e : RunEnd) (r : Refusal) → e ≡ RunEnd.Refused r → listed_end e ≡ ended finished → ⊥
-refused-unfinished RunEnd.Finished r p q = let z : ◌≡◌ {A = ℕ} 0 1 = cc in absurd (omega arith)
-refused-unfinished RunEnd.Spent r p q = let z : ◌≡◌ {A = ℕ} 0 1 = cc in absurd (omega arith)
-refused-unfinished (RunEnd.Refused s) r p q = let z : ◌≡◌ {A = ℕ} 0 1 = cc in absurd (omega arith)
-
-pub finished-listed : (e : RunEnd) → e ≡ RunEnd.Finished → listed_end e ≡ ended finished
+pub finished-listed : (e : RunEnd (Unit {0})) → e ≡ RunEnd.Finished tt → listed_end e ≡ ended finished
 finished-listed e p = ap listed_end p

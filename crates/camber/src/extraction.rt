@@ -8,8 +8,10 @@ use crate::halves;
 use curve2::checked::Curve2;
 use errors::Refusal;
 use inscribed::Inscribed;
+use inscribed::checked::CirclesStore;
 use line2::Line2;
 use refine::{Run, RunEnd};
+use runs::Units;
 
 // The circles on both sides of a reference line, of a section that passed the entry tests, from the first circle on.
 fn both_halves(
@@ -19,25 +21,25 @@ fn both_halves(
     store: &mut [f64],
     circle: Inscribed,
     limit: u32,
-) -> Run
+) -> Run<()>
     ensures { (section_tol : Float) → listed_run result store.new ≡ first_half (record { section = section.now.points.now; section_tol = section_tol; tol = tol; line = line; store = store.old }) (under_limit limit) circle }
 {
-    let slots = inscribed::store::slots_in(store.len());
-    let first = crate::march::march_from(section, tol, store, slots, circle, limit, 0);
-    match first.end {
-        RunEnd::Finished => halves::second_half(
-            section,
-            tol,
-            line,
-            store,
-            slots,
-            first.count,
-            limit,
-            first.units,
-        ),
-        RunEnd::Spent => first,
-        RunEnd::Refused(_) => first,
-    }
+    let mut circles = CirclesStore::new(store, 0);
+    let first = crate::march::march_from(
+        section,
+        tol,
+        &mut circles,
+        circle,
+        Units::none_taken(limit),
+    );
+    let RunEnd::Finished(()) = first.end else {
+        return first;
+    };
+    let units = Units {
+        limit,
+        taken: first.units,
+    };
+    halves::second_half(section, tol, line, &mut circles, units)
 }
 
 // The circles on both sides of a reference line, within one limit of units over both marches.
@@ -49,7 +51,7 @@ pub fn extract_circles(
     line: Line2,
     store: &mut [f64],
     limit: u32,
-) -> Result<Run, Refusal>
+) -> Result<Run<()>, Refusal>
     ensures { listed_called result store.new ≡ extraction_of (record { section = section.now; section_tol = section_tol; tol = tol; line = line; store = store.old }) limit }
 {
     let curve = crate::march::entered(section, section_tol, tol, line)?;

@@ -1,35 +1,36 @@
 // One march, `extract_half_circles`: refinements and advances by turns.
 ghost use Rattle.curve2.specs.Lent.{IsLent};
 ghost use Rattle.errors.specs.Answer.{passed};
-ghost use Rattle.std.specs.Prelude.{◌≡◌, List, [], ◌∷◌, ◌*◌, ◌≤◌, length, Float};
+ghost use Rattle.std.specs.Prelude.{◌≡◌, List, [], ◌∷◌, ◌≤◌, Float};
 ghost use Rattle.curve2.specs.Entry.{finer_general};
 ghost use Rattle.runs.specs.Run.{under_limit};
 ghost use Rattle.refine.specs.Machine.{refining};
-ghost use Rattle.refine.specs.Report.{reported, listed_run, listed_called};
+ghost use Rattle.refine.specs.Report.{listed_run, listed_called};
+ghost use Rattle.refine.specs.Code.{Reports};
 ghost use Rattle.halving.specs.Halving.{from_crossing};
 ghost use Rattle.circles.specs.Asked.{line_entry};
 ghost use Rattle.camber.specs.March.{march_run, after_start, march_told, listed_march};
-ghost use Rattle.inscribed.specs.Store.{width};
 
 use advance::Advanced;
 use curve2::checked::Curve2;
 use curve2::entering;
 use errors::Refusal;
 use inscribed::Inscribed;
-use inscribed::checked::circle_at;
+use inscribed::checked::CirclesStore;
 use line2::Line2;
 use queries::{Crossing, HitEdges};
 use refine::{Run, RunEnd};
+use runs::Units;
 
 // A march that began: how it ended, and the edges that its start hit.
 #[derive(Clone, Copy)]
 pub struct MarchRun {
-    pub run: Run,
+    pub run: Run<()>,
     pub edges: Option<HitEdges>,
 }
 
 // The run of a march, without its edges.
-pub fn called(answer: Result<MarchRun, Refusal>) -> Result<Run, Refusal>
+pub fn called(answer: Result<MarchRun, Refusal>) -> Result<Run<()>, Refusal>
     ensures { (store : List Float) → listed_called result store ≡ (listed_march answer store).called }
 {
     Ok(answer?.run)
@@ -49,42 +50,41 @@ pub(crate) fn entered(
     circles::line_entry(section, section_tol, tol, line, finer)
 }
 
-// The march on a checked section from its first circle on, into a store with room for `slots` circles; `units` have been taken before.
+// The march on a checked section from its first circle on, into a store that holds none, with the units taken before.
 pub(crate) fn march_from(
     section: &Curve2<'_>,
     tol: f64,
-    store: &mut [f64],
-    slots: usize,
+    circles: &mut CirclesStore<'_>,
     circle: Inscribed,
-    limit: u32,
-    units: u32,
-) -> Run
-    requires width_in_bounds { (slots * width ≤ length store.old) × (units ≤ limit) }
-    ensures { listed_run result store.new ≡ reported store.old (march_run section.now.points.now tol slots (under_limit limit) (refining [] (circle ∷ [])) units) }
+    units: Units,
+) -> Run<()>
+    requires { circles.old.count ≡ 0 }
+    ensures { Reports result circles.old circles.new (march_run section.now.points.now tol circles.old.slots (under_limit units.limit) (refining [] (circle ∷ [])) units.taken) }
 {
+    let limit = units.limit;
     let mut next = circle;
-    let mut n: usize = 0;
-    let mut u = units;
+    let mut taken = units.taken;
+    // It ends, since each turn accepts a circle; nothing is counted here.
     loop {
-        let ran = refine::checked::refine(section, tol, store, slots, n, next, limit, u);
-        match ran.end {
-            RunEnd::Finished => {}
-            RunEnd::Spent => return ran,
-            RunEnd::Refused(_) => return ran,
-        }
-        let last = circle_at(store, ran.count - 1);
-        match advance::checked::advance(section, tol, last, limit, ran.units) {
+        let ran = refine::checked::refine(section, tol, circles, next, Units { limit, taken });
+        let RunEnd::Finished(()) = ran.end else {
+            return ran;
+        };
+        let units = Units {
+            limit,
+            taken: ran.units,
+        };
+        match advance::checked::advance(section, tol, circles.last(), units) {
             Advanced::Ended(end, units) => {
                 return Run {
                     end,
-                    count: ran.count,
+                    count: circles.count,
                     units,
                 };
             }
             Advanced::Next(d, v) => {
                 next = d;
-                n = ran.count;
-                u = v;
+                taken = v;
             }
         }
     }
@@ -98,13 +98,13 @@ fn march_on(
     crossing: Crossing,
     store: &mut [f64],
     limit: u32,
-) -> Run
+) -> Run<()>
     ensures { (section_tol : Float) (line : Line2) → listed_run result store.new ≡ after_start (record { section = section.now.points.now; section_tol = section_tol; tol = tol; line = line; store = store.old }) (under_limit limit) (from_crossing section.now.points.now tol crossing) }
 {
     match halving::checked::from_crossing(section, tol, crossing) {
         Ok(c) => {
-            let slots = inscribed::store::slots_in(store.len());
-            march_from(section, tol, store, slots, c, limit, 0)
+            let mut circles = CirclesStore::new(store, 0);
+            march_from(section, tol, &mut circles, c, Units::none_taken(limit))
         }
         Err(r) => Run::refused(r, 0, 0),
     }

@@ -3,7 +3,7 @@
 // The number that the bits stand for; every NaN pattern is NaN.
 pub(crate) fn float(bits: u64) -> f64 {
     if 0x7ff0_0000_0000_0000 < bits % 0x8000_0000_0000_0000 {
-        return 0.0 / 0.0;
+        return f64::NAN;
     }
     f64::from_bits(bits)
 }

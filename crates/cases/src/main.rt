@@ -4,97 +4,69 @@
 
 mod asked;
 mod bits;
-mod buffers;
-mod cells;
+mod case;
+mod numbers;
 mod replay;
 mod samples;
-mod script;
-mod tables;
+mod table;
 
 ghost use Rattle.std.specs.Prelude.{◌≤◌, length, IfOk};
 
+use case::Case;
 use std::io;
 use std::io::Read;
 
-const NEW_LINE: u8 = 10;
-
-const BLANK: u8 = 32;
-
-// How the case before came out: none was begun, it is right so far, or it is wrong.
-const NONE: u32 = 0;
-
-const RIGHT: u32 = 1;
-
-const WRONG: u32 = 2;
-
-fn verdict(rt: &impl Print, state: u32) -> io::Result<()> {
-    if state == RIGHT {
-        return rt.write_all(b": right\n");
-    }
-    if state == WRONG {
-        return rt.write_all(b": WRONG\n");
-    }
-    Ok(())
+// How a case comes out: right so far, or wrong.
+#[derive(Clone, Copy)]
+enum Verdict {
+    Right,
+    Wrong,
 }
 
-// What stands behind the first word of a line.
-fn name_of(line: &[u8]) -> &[u8] {
-    let end = tables::find(line, 0, BLANK);
-    if line.len() <= end {
-        return &line[0..0];
+// Ends the line of a case; nothing where none was begun.
+fn say(rt: &impl Print, verdict: Option<Verdict>) -> io::Result<()> {
+    match verdict {
+        Some(Verdict::Right) => rt.write_all(b": right\n"),
+        Some(Verdict::Wrong) => rt.write_all(b": WRONG\n"),
+        None => Ok(()),
     }
-    let at = end + 1;
-    &line[at..]
 }
 
-// A line that is empty, or starts with a sharp, says nothing.
-fn is_note(line: &[u8]) -> bool {
-    if line.len() == 0 {
-        return true;
-    }
-    line[0] == b'#'
-}
-
+// Shows a line that didn't come out right.
 fn show(rt: &impl Print, line: &[u8]) -> io::Result<()> {
     rt.write_all(b"\n")?;
     rt.write_all(line)
 }
 
-// Takes one line, and returns how its case comes out so far.
+// Takes one line, and returns how its case comes out so far. A line that is empty, or starts with a sharp, says nothing.
 fn next(
     rt: &impl Print,
     line: &[u8],
-    state: u32,
-    n: &mut [f64],
-    words: &mut [u64],
-) -> io::Result<u32> {
-    if is_note(line) {
-        return Ok(state);
+    verdict: Option<Verdict>,
+    case: &mut Case,
+) -> io::Result<Option<Verdict>> {
+    match line {
+        [] | [b'#', ..] => Ok(verdict),
+        [b'c', b'a', b's', b'e', b' ', name @ ..] => {
+            say(rt, verdict)?;
+            rt.write_all(name)?;
+            Ok(Some(Verdict::Right))
+        }
+        _ if replay::is_right(line, case) => Ok(verdict),
+        _ => {
+            show(rt, line)?;
+            Ok(Some(Verdict::Wrong))
+        }
     }
-    if tables::is_same(tables::word(line, 0), b"case") {
-        verdict(rt, state)?;
-        rt.write_all(name_of(line))?;
-        return Ok(RIGHT);
-    }
-    if replay::line_is_right(line, n, words) {
-        return Ok(state);
-    }
-    show(rt, line)?;
-    Ok(WRONG)
 }
 
-fn lines(rt: &impl Print, text: &[u8], n: &mut [f64], words: &mut [u64]) -> io::Result<u32> {
-    let mut state: u32 = NONE;
-    let mut at: usize = 0;
-    while at < text.len() {
-        let end = tables::find(text, at, NEW_LINE);
-        state = next(rt, &text[at..end], state, n, words)?;
-        if text.len() <= end {
-            return Ok(state);
-        }
-        at = end + 1;
+// Takes the lines of a table, and returns how the last case comes out.
+fn run(rt: &impl Print, text: &[u8], case: &mut Case) -> io::Result<Option<Verdict>> {
+    let mut verdict = None;
+    for line in text.split(|c| *c == b'\n') {
+        verdict = next(rt, line, verdict, case)?;
     }
-    Ok(state)
+    Ok(verdict)
 }
 
 // Fills a buffer from its start, as far as the input goes, and says how far that is.
@@ -102,6 +74,7 @@ fn read_full(input: &mut impl Read, text: &mut [u8]) -> io::Result<usize>
     ensures { IfOk result (λ n. n ≤ length text.new) }
 {
     let mut len: usize = 0;
+    // No `for`: how much a read gives is known behind it alone.
     while len < text.len() {
         let n = input.read(&mut text[len..])?;
         if n == 0 {
@@ -114,9 +87,7 @@ fn read_full(input: &mut impl Read, text: &mut [u8]) -> io::Result<usize>
 
 fn main(rt: HostRuntime) -> io::Result<()> {
     let mut text = [0; 131072];
-    let mut n = [0.0; script::ALL as usize];
-    let mut words = [0; script::WORDS];
     let len = read_full(&mut rt.reader(), &mut text)?;
-    let state = lines(&rt, &text[0..len], &mut n, &mut words)?;
-    verdict(&rt, state)
+    let verdict = run(&rt, &text[0..len], &mut Case::new())?;
+    say(&rt, verdict)
 }

@@ -1,4 +1,5 @@
 // Inputs from a seed each, and checksums of answers: of a sample that engeom's published functions answered in oracle/, and of square roots that the processor worked out.
+use crate::asked::Told;
 use crate::bits;
 use inscribed::store::WIDTH;
 
@@ -13,11 +14,7 @@ fn mixed(sum: u64, word: u64) -> u64 {
 
 // The same for numbers, by their bits.
 fn mixed_numbers(sum: u64, numbers: &[f64]) -> u64 {
-    let mut s = sum;
-    for x in numbers {
-        s = mixed(s, bits::pattern(*x));
-    }
-    s
+    numbers.iter().fold(sum, |s, x| mixed(s, bits::pattern(*x)))
 }
 
 // How many of a circle's numbers the published functions have: all but the lengths along.
@@ -25,35 +22,28 @@ pub(crate) const PUBLISHED: usize = WIDTH - 2;
 
 // The same for a store, by those numbers of its circles that the published functions have.
 fn mixed_circles(sum: u64, store: &[f64]) -> u64 {
-    let mut s = sum;
-    for (i, x) in store.iter().enumerate() {
-        if i % WIDTH < PUBLISHED {
-            s = mixed(s, bits::pattern(*x));
-        }
-    }
-    s
+    store
+        .chunks_exact(WIDTH)
+        .fold(sum, |s, circle| mixed_numbers(s, &circle[..PUBLISHED]))
 }
 
 // The checksum of an answer: its words, its numbers and the store, or the refusal's number alone.
-pub(crate) fn checksum_of(told: &[u64; 3], out: &[f64], store: &[f64]) -> u64 {
-    let number = told[0];
-    let sum = mixed(1, number);
-    if number != 0 {
+pub(crate) fn checksum_of(told: &Told, out: &[f64], store: &[f64]) -> u64 {
+    let sum = mixed(1, told[0]);
+    if told[0] != 0 {
         return sum;
     }
-    let sum = mixed(sum, told[1]);
-    let sum = mixed(sum, told[2]);
+    let sum = mixed(mixed(sum, told[1]), told[2]);
     mixed_circles(mixed_numbers(sum, out), store)
 }
 
 // The root of x asked for directly: its bits, or the number of its refusal.
 pub(crate) fn root_bits(x: f64) -> u64 {
     let mut root: f64 = 0.0;
-    let number = rummyteak::rummyteak_sqrt(x, &mut root);
-    if number != 0 {
-        return number as u64;
+    match rummyteak::rummyteak_sqrt(x, &mut root) {
+        0 => bits::pattern(root),
+        number => u64::from(number),
     }
-    bits::pattern(root)
 }
 
 // The checksum of the roots of n generated patterns, the sign bit cleared.

@@ -8,12 +8,14 @@ use inscribed::Inscribed;
 use line2::surface2::SurfacePoint2;
 use points::AngleDir;
 
+// Not `f64::abs`: -0 stays as it is.
 fn size_of(x: f64) -> f64
     ensures { result ≡ size_of x }
 {
     if x < 0.0 { -x } else { x }
 }
 
+// Not `f64::max`, which of 0 and -0 may give either.
 fn greater(a: f64, b: f64) -> f64
     ensures { result ≡ greater a b }
 {

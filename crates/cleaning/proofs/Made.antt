@@ -2,7 +2,7 @@
 use mathlib.Core.Path.{◌≡◌, refl, sym, ap, ◌∙◌}
 use mathlib.Core.Bool.{Bool, true, false, ◌&&◌, cond}
 use mathlib.Core.List.{List, [], ◌∷◌}
-use Prim.Native.Nat.{ℕ, ◌+◌, ◌*◌, ◌%◌, ◌≤◌, ◌<◌}
+use Prim.Native.Nat.{ℕ, zero, suc, ◌+◌, ◌*◌, ◌%◌, ◌≤◌, ◌<◌}
 use native.Mathlib.Omega.{arith}
 use borrow.Author.Tests.{le-ltb}
 use lib.Dec.{ltb}
@@ -10,6 +10,8 @@ use lib.ListN.{length, take, drop, length-append}
 use lib.Seq.{take_at}
 use lib.Ieee.{Float, le}
 use Rattle.std.specs.Prelude.{Ok, Err}
+use Rattle.std.specs.List.{list_all, range_with_len}
+use native.Mathlib.Numerals.{add-one}
 use Rattle.errors.specs.Answer.{Answer}
 use Rattle.errors.specs.Lists.{last_of}
 use Rattle.errors.specs.declared.Refusal.{Refusal}
@@ -138,19 +140,13 @@ too_few tol p (q ∷ qs) = go (le (plain_dist q p) tol) refl (too_few tol p qs)
     go true e more = rw e more
     go false e more = rw (e, le-ltb (length (p ∷ (q ∷ kept_after tol q qs))) 2 (omega arith))
 
-pub too_few_points : (tol : Float) (ns : List Float) (p : Point2) → p ≡ point_at ns 0 → 2 ≤ length ns → all_near tol p (points_of (drop 2 ns)) ≡ ltb (length (kept tol (points_of ns))) 2
-too_few_points tol ns p e least = rw (e, first_point ns least) (too_few tol (point_at ns 0) (points_of (drop 2 ns)))
+-- the points from number k on, n of them, which are the last
+near_from : (tol : Float) (ns : List Float) (p : Point2) (k n : ℕ) → length ns ≡ 2 * (k + n) → list_all (λ i. le (plain_dist (point_at ns (2 * i)) p) tol) (range_with_len k n) ≡ all_near tol p (points_of (drop (2 * k) ns))
+unfolding all_near
+near_from tol ns p k zero h = rw (points-end ns (2 * k) (omega (arith, h))) refl
+near_from tol ns p k (suc n) h =
+    let next : 2 * k + 2 ≡ 2 * (k + 1) = omega arith in
+    rw (points_step ns (2 * k) (omega (arith, h)), next, ← near_from tol ns p (k + 1) n (omega (arith, h)), add-one k) refl
 
-module _ (tol : Float) (ns : List Float) (p : Point2) (i : ℕ) (few : Bool) (inv : all_near tol p (points_of (drop i ns)) ≡ few) where
-  module _ (fits : i + 1 < length ns) (d : Float) (e : d ≡ plain_dist (point_at ns i) p) where
-    pub second_found : le d tol ≡ false → false ≡ few
-    unfolding all_near
-    second_found f = rw (points_step ns i fits, ← e, f) at inv
-
-    pub second_not_here : le d tol ≡ true → all_near tol p (points_of (drop (i + 2) ns)) ≡ few
-    unfolding all_near
-    second_not_here f = rw (points_step ns i fits, ← e, f) at inv
-
-  pub no_second : length ns ≤ i → true ≡ few
-  unfolding all_near
-  no_second h = rw (points-end ns i h) at inv
+pub too_few_points : (tol : Float) (ns : List Float) (p : Point2) (n : ℕ) → p ≡ point_at ns 0 → length ns ≡ 2 * (1 + n) → list_all (λ i. le (plain_dist (point_at ns (2 * i)) p) tol) (range_with_len 1 n) ≡ ltb (length (kept tol (points_of ns))) 2
+too_few_points tol ns p n e h = near_from tol ns p 1 n h ∙ rw (e, first_point ns (omega (arith, h))) (too_few tol (point_at ns 0) (points_of (drop 2 ns)))

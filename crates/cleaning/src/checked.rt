@@ -77,12 +77,7 @@ impl Uncleaned<'_> {
         ensures { result ≡ ltb (length (kept self.now.tol (points_of self.now.points.now))) 2 }
     {
         let first = vertex_at(self.points, 0);
-        for i in 1..self.points.len() / 2 {
-            if !(plain_dist(vertex_at(self.points, i), first) <= self.tol) {
-                return false;
-            }
-        }
-        true
+        (1..self.points.len() / 2).all(|i| plain_dist(vertex_at(self.points, i), first) <= self.tol)
     }
 
     // The points that cleaning keeps, into the output.

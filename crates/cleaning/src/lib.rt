@@ -21,7 +21,7 @@ pub struct Curve {
     pub is_closed: bool,
 }
 
-// What an output holds so far: how many points from its start on, and the last of them.
+// What an output holds so far: how many points from its start on, and the last of them. The output is no part of it: how much room is left follows from the points that each function has yet to put, so each would have to ask for it of such a struct too.
 #[derive(Clone, Copy)]
 pub struct Kept {
     pub count: usize,

@@ -26,10 +26,8 @@ pub fn reversed(points: &[f64], tol: f64, out: &mut [f64]) -> Result<Curve, Refu
     ensures { Made (backwards points.now tol (length out.old)) tol out.old out.new result }
 {
     let also = AlsoBad {
-        number: false,
-        tolerance: false,
-        finer: false,
         room: out.len() < points.len(),
+        ..AlsoBad::default()
     };
     let section = entering::section_entry(points, tol, also)?;
     put_backwards(&section, out);

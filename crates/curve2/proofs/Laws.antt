@@ -138,8 +138,5 @@ module _ (ns : List Float) (tol : Float) (also : AlsoBad) (e : section_entry ns 
 
 -- the same of a section that was lent on, by the two facts that its call ensures
 module _ {A : Type 0} (ns : List Float) (tol : Float) (also : AlsoBad) (r : Answer A) (s : A) (is : passed r ≡ section_entry ns tol also) (e : r ≡ Ok s) where
-  pub lent_section : IsSection ns tol
-  lent_section = entry_passed ns tol also (sym (rw e at is))
-
   pub lent_room : also.room ≡ false
   lent_room = entry_room ns tol also (sym (rw e at is))

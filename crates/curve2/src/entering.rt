@@ -25,12 +25,7 @@ pub fn is_in_range(x: f64) -> bool
 pub fn has_bad_number(points: &[f64]) -> bool
     ensures { result ≡ bad_numbers points.now }
 {
-    for x in points {
-        if !is_in_range(*x) {
-            return true;
-        }
-    }
-    false
+    points.iter().any(|x| !is_in_range(*x))
 }
 
 // Test 3: a section tolerance outside 0 to 1,000,000.
@@ -79,16 +74,10 @@ fn check_section(points: &[f64], tol: f64, also: AlsoBad) -> Result<(), Refusal>
     if is_bad_count(MOST_POINTS, points.len()) {
         return Err(Refusal::PointCount);
     }
-    if has_bad_number(points) {
+    if has_bad_number(points) || also.number {
         return Err(Refusal::BadNumber);
     }
-    if also.number {
-        return Err(Refusal::BadNumber);
-    }
-    if is_bad_tolerance(tol) {
-        return Err(Refusal::Tolerance);
-    }
-    if also.tolerance {
+    if is_bad_tolerance(tol) || also.tolerance {
         return Err(Refusal::Tolerance);
     }
     if also.finer {

@@ -15,8 +15,8 @@ use points::{AngleDir, Point2, Vector2};
 // A section has no more points than this.
 pub const MOST_POINTS: usize = 4096;
 
-// What fails of the arguments beside the section: a number (2), a tolerance (3), a general tolerance finer than the section's (23; false in a call that isn't held to it), a count or an output (4).
-#[derive(Clone, Copy)]
+// What fails of the arguments beside the section: a number (2), a tolerance (3), a general tolerance finer than the section's (23; false in a call that isn't held to it), a count or an output (4). They are flags, since a test of the section with a smaller number is told first.
+#[derive(Clone, Copy, Default)]
 pub struct AlsoBad {
     pub number: bool,
     pub tolerance: bool,

@@ -12,11 +12,12 @@ use Rattle.runs.specs.Run.{under_limit}
 use Rattle.inscribed.specs.Store.{circles_of, stored}
 use Rattle.inscribed.proofs.StoreLaws.{length-circles, stored_longer, circles_of-stored}
 use Rattle.inscribed.specs.declared.Inscribed.{Inscribed}
-use Rattle.gap.specs.declared.EdgeFit.{EdgeFit}
+use Rattle.refine.specs.declared.Run.{Run}
 use Rattle.gap.specs.Rounds.{Fit, first_progress}
-use Rattle.gap.specs.Code.{Fits}
-use Rattle.gap.proofs.RoundsLaws.{Grown, rounds_grown}
-use Rattle.edges.specs.Edges.{end_last, fit_start, fit_from, fit_reported, fitted, listed_fit}
+use Rattle.gap.proofs.RoundsLaws.{FitTold, Grown, rounds_grown}
+use Rattle.refine.specs.Report.{listed_run}
+use Rattle.points.specs.declared.Point2.{Point2}
+use Rattle.edges.specs.Edges.{end_last, fit_start, fit_from, fit_reported, fitted}
 use Rattle.edges.specs.declared.fitting.Start.{Start}
 use Rattle.edges.proofs.EndLaws.{length-end_last}
 
@@ -45,13 +46,10 @@ module _ (ns : List Float) (section_tol tol : Float) (slots limit : ℕ) (front 
     held : circles_of turned count ≡ ds
     held = ap (λ (x : List Float). circles_of x count) is_turned ∙ ap (λ (k : ℕ). circles_of (stored ds old) k) (sym length_ds) ∙ circles_of-stored ds old
 
-    module _ (after : List Float) (r : EdgeFit)
-        (is : Fits (fit_from ns tol slots (under_limit limit) (circles_of turned count) (fit_start ns section_tol (circles_of turned count))) turned after r) where
-      is_whole : Fits whole turned after r
+    module _ (after : List Float) (r : Run Point2)
+        (is : FitTold (fit_from ns tol slots (under_limit limit) (circles_of turned count) (fit_start ns section_tol (circles_of turned count))) turned after r) where
+      is_whole : FitTold whole turned after r
       is_whole = rw held at is
-
-      pub fitted-count : r.count ≤ slots
-      fitted-count = omega (arith, length-circles after 0 r.count, ap (λ (f : Fit). length f.circles) is_whole.returned, grown.high)
 
       turned-back : stored (end_last front (circles_of after r.count)) after ≡ stored (end_last front whole.circles) old
       turned-back =
@@ -63,7 +61,7 @@ module _ (ns : List Float) (section_tol tol : Float) (slots limit : ℕ) (front 
           ∙ ap (λ (x : List Float). stored (end_last front whole.circles) x) is_turned
           ∙ stored_longer (end_last front whole.circles) ds old (omega (arith, l, grown.low)))
 
-      pub fit_whole : listed_fit r (stored (end_last front (circles_of after r.count)) after) ≡ fitted ns section_tol tol slots (under_limit limit) front old count
+      pub fit_whole : listed_run r (stored (end_last front (circles_of after r.count)) after) ≡ fitted ns section_tol tol slots (under_limit limit) front old count
       unfolding fitted fit_reported
       fit_whole =
           let e = is_whole.returned in

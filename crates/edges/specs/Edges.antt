@@ -15,8 +15,7 @@ use Rattle.refine.specs.Report.{Report, Called, refused_on_entry, ran}
 use Rattle.lists.specs.Ends.{last_pair, clip_line}
 use Rattle.lists.specs.declared.ends.Pair.{Pair}
 use Rattle.gap.specs.Gap.{gap_of, cap_intersection}
-use Rattle.gap.specs.Rounds.{Fit, fit, most_rounds, first_progress, rounds, listed_edge_end}
-use Rattle.gap.specs.declared.EdgeFit.{EdgeFit}
+use Rattle.gap.specs.Rounds.{Fit, fit, most_rounds, first_progress, rounds}
 use Rattle.edges.specs.declared.fitting.Start.{Start}
 
 -- what is handed in: a section with its tolerance, a general tolerance, a store with its stated count, and which end is meant
@@ -94,12 +93,3 @@ fit_after i full (Ok passed) = ran (fitted i.section i.section_tol i.tol (slots 
 
 abbrev pub fit_of : EdgeInput → ℕ → Called Point2
 fit_of i limit = fit_after i (under_limit limit) (edge_entry i (finer_general i.section_tol i.tol))
-
--- ---- what the function returns
-
-abbrev pub listed_fit : EdgeFit → List Float → Report Point2
-listed_fit r store = record { ending = listed_edge_end r.end; count = r.count; units = r.units; store = store }
-
-abbrev pub listed_fit_call : Answer EdgeFit → List Float → Called Point2
-listed_fit_call (Ok r) store = ran (listed_fit r store)
-listed_fit_call (Err r) store = refused_on_entry r store

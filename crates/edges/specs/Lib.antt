@@ -1,3 +1,2 @@
 -- Open edges: whether a section is open at an end, and the fit.
 pub mod Edges
-pub mod Code

@@ -1,18 +1,21 @@
 // The fit of the open edge, of a section and a store that passed the entry tests: where it starts, the fit at the end of the last circles, and the order turned at the front and turned back.
-ghost use Rattle.std.specs.Prelude.{◌≡◌, ◌*◌, ◌≤◌, length};
+ghost use Rattle.std.specs.Prelude.{◌≡◌};
 ghost use Rattle.runs.specs.Run.{under_limit};
-ghost use Rattle.inscribed.specs.Store.{width, circles_of, stored};
+ghost use Rattle.inscribed.specs.Store.{circles_of, stored};
+ghost use Rattle.inscribed.specs.Changes.{Becomes, SameStore, in_use};
+ghost use Rattle.refine.specs.Report.{listed_run};
 ghost use Rattle.gap.specs.Code.{Fits};
-ghost use Rattle.edges.specs.Edges.{end_last, start_at_end, fit_start, fit_from, fitted, listed_fit};
+ghost use Rattle.edges.specs.Edges.{end_last, start_at_end, fit_start, fit_from, fitted};
 
 use curve2::checked::Curve2;
 use errors::Refusal;
-use gap::{EdgeFit, Gap};
-use inscribed::checked::CirclesInUse;
+use gap::Gap;
+use inscribed::checked::{CirclesInUse, CirclesStore};
 use lists::checked::last_pair;
 use lists::ends;
 use lists::ends::Pair;
 use points::Point2;
+use refine::Run;
 
 // Where the rounds of a fit start: the gap, and the first point on it.
 #[derive(Clone, Copy)]
@@ -48,36 +51,23 @@ fn fit_start(section: &Curve2<'_>, circles: &CirclesInUse<'_>) -> Result<Start, 
 fn fit_at_back(
     section: &Curve2<'_>,
     tol: f64,
-    store: &mut [f64],
-    slots: usize,
-    count: usize,
+    circles: &mut CirclesStore<'_>,
     limit: u32,
-) -> EdgeFit
-    requires count_le_slots { (count ≤ slots) × (slots * width ≤ length store.old) }
-    ensures { Fits (fit_from section.now.points.now tol slots (under_limit limit) (circles_of store.old count) (fit_start section.now.points.now section.now.tol (circles_of store.old count))) store.old store.new result }
+) -> Run<Point2>
+    ensures { Fits (fit_from section.now.points.now tol circles.old.slots (under_limit limit) (in_use circles.old) (fit_start section.now.points.now section.now.tol (in_use circles.old))) circles.old circles.new result }
 {
-    match fit_start(section, &CirclesInUse { store, count }) {
-        Ok(start) => gap::checked::rounds(
-            section,
-            tol,
-            store,
-            slots,
-            count,
-            start.gap,
-            start.point,
-            limit,
-        ),
-        Err(r) => EdgeFit::refused(r, count, 0),
+    match fit_start(section, &circles.in_use()) {
+        Ok(start) => gap::checked::rounds(section, tol, circles, start.gap, start.point, limit),
+        Err(r) => Run::refused(r, circles.count, 0),
     }
 }
 
-// Turns the order of the first circles of a store, where the front is meant.
-fn turn(store: &mut [f64], count: usize, at_front: bool)
-    requires { count * width ≤ length store.old }
-    ensures { store.new ≡ stored (end_last at_front (circles_of store.old count)) store.old }
+// Turns the order of the circles, where the front is meant.
+fn turn(circles: &mut CirclesStore<'_>, at_front: bool)
+    ensures { Becomes circles.old circles.new (stored (end_last at_front (in_use circles.old)) circles.old.store.now) circles.old.count }
 {
     if at_front {
-        inscribed::checked::reverse_order_only(store, count);
+        circles.reverse_order_only();
     }
 }
 
@@ -85,17 +75,15 @@ fn turn(store: &mut [f64], count: usize, at_front: bool)
 pub(crate) fn fit(
     section: &Curve2<'_>,
     tol: f64,
-    store: &mut [f64],
-    slots: usize,
-    count: usize,
+    circles: &mut CirclesStore<'_>,
     at_front: bool,
     limit: u32,
-) -> EdgeFit
-    requires count_le_slots { (count ≤ slots) × (slots * width ≤ length store.old) }
-    ensures { listed_fit result store.new ≡ fitted section.now.points.now section.now.tol tol slots (under_limit limit) at_front store.old count }
+) -> Run<Point2>
+    ensures fit { listed_run result circles.new.store.now ≡ fitted section.now.points.now section.now.tol tol circles.old.slots (under_limit limit) at_front circles.old.store.now circles.old.count }
+    ensures same { SameStore circles.old circles.new × (circles.new.count ≡ result.count) }
 {
-    turn(store, count, at_front);
-    let fit = fit_at_back(section, tol, store, slots, count, limit);
-    turn(store, fit.count, at_front);
+    turn(circles, at_front);
+    let fit = fit_at_back(section, tol, circles, limit);
+    turn(circles, at_front);
     fit
 }

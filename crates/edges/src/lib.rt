@@ -6,25 +6,16 @@ mod open_end;
 
 ghost use Rattle.curve2.specs.Lent.{IsLent};
 ghost use Rattle.errors.specs.Answer.{passed};
-ghost use Rattle.std.specs.Prelude.{◌≡◌, List, Float};
-ghost use Rattle.refine.specs.Report.{called_number};
-ghost use Rattle.edges.specs.Edges.{edge_entry, open_at_end, fit_of, listed_fit_call};
+ghost use Rattle.std.specs.Prelude.{◌≡◌, Float};
+ghost use Rattle.refine.specs.Report.{listed_called};
+ghost use Rattle.edges.specs.Edges.{edge_entry, open_at_end, fit_of};
 
 use curve2::checked::Curve2;
 use curve2::{AlsoBad, entering};
 use errors::Refusal;
-use gap::EdgeFit;
-use inscribed::checked::CirclesInUse;
-
-// The number of what a fit's call returns: 0 for an edge point.
-pub fn number(answer: Result<EdgeFit, Refusal>) -> u32
-    ensures { (store : List Float) → result ≡ called_number (listed_fit_call answer store) }
-{
-    match answer {
-        Ok(fit) => u32::from(fit.end),
-        Err(r) => u32::from(r),
-    }
-}
+use inscribed::checked::{CirclesInUse, CirclesStore};
+use points::Point2;
+use refine::Run;
 
 // The entry tests of an edge, with whether the general tolerance is finer than the section's: `is_open_at_end` isn't held to that.
 #[tactic(auto, unfolding(crate::specs::Edges::edge_entry))]
@@ -59,13 +50,13 @@ pub fn fit_open_edge(
     count: usize,
     at_front: bool,
     limit: u32,
-) -> Result<EdgeFit, Refusal>
-    ensures { listed_fit_call result store.new ≡ fit_of (record { section = section.now; section_tol = section_tol; tol = tol; store = store.old; count = count; at_front = at_front }) limit }
+) -> Result<Run<Point2>, Refusal>
+    ensures { listed_called result store.new ≡ fit_of (record { section = section.now; section_tol = section_tol; tol = tol; store = store.old; count = count; at_front = at_front }) limit }
 {
     let finer = entering::is_finer_general(section_tol, tol);
     let curve = entered(section, section_tol, tol, store, count, at_front, finer)?;
-    let slots = inscribed::store::slots_in(store.len());
-    Ok(fitting::fit(&curve, tol, store, slots, count, at_front, limit))
+    let mut circles = CirclesStore::new(store, count);
+    Ok(fitting::fit(&curve, tol, &mut circles, at_front, limit))
 }
 
 // Whether the section is open at one end of its circles: no for a closed section, before the circles are counted.

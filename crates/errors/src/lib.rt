@@ -90,7 +90,7 @@ impl From<Refusal> for u32 {
     }
 }
 
-// Whether the sign bit is clear: one over a zero is an infinity with its sign.
+// Whether the sign bit is clear; of a NaN it is taken for clear.
 pub fn is_plus(x: f64) -> bool
     ensures { result ≡ is_plus x }
 {

@@ -1,4 +1,3 @@
--- The last point of a section.
-pub mod Laws
+-- Laws that belong to no one function.
 pub mod RoundLaws
 pub mod RoundsLaws

@@ -23,10 +23,11 @@ use Rattle.lists.specs.declared.ends.Pair.{Pair}
 use Rattle.gap.specs.Probe.{probed}
 use Rattle.gap.specs.declared.Gap.{Gap}
 use Rattle.gap.specs.declared.round.Moved.{Moved}
-use Rattle.gap.specs.declared.round.RoundEnd.{RoundEnd}
-use Rattle.gap.specs.declared.EdgeFit.{EdgeFit}
+use Rattle.gap.specs.declared.round.Reached.{Reached}
+use Rattle.std.specs.declared.ops.ControlFlow.{ControlFlow}
+use Rattle.std.specs.declared.ops.ControlFlow.TheVariants.{Break}
 use Rattle.gap.specs.Rounds.{fit, Round, stops, moved_point, after_move, after_refined, after_probe, round}
-use Rattle.gap.specs.Code.{fit_in, round_in, round_circles, round_units, Rounded}
+use Rattle.gap.specs.Code.{fit_in, round_in, round_circles, round_units}
 
 -- ---- the circles and units after a refinement are the refinement's
 
@@ -51,6 +52,11 @@ after_units gap point cs u (ended (Ok done)) = go (moved_point gap point cs)
 after_units gap point cs u (ended (Err n)) = refl
 after_units gap point cs u spent = refl
 after_units gap point cs u unfinished = refl
+
+-- what r returns and leaves, in a store that held `old`: a round, with n circles then in the store
+pub record RoundTold (is : Round) (old store : List Float) (n : ℕ) (r : ControlFlow (Run Point2) Reached) : Type 0 where
+  pub returned : round_in store n r ≡ is
+  pub left : store ≡ stored (round_circles is) old
 
 module _ (ns : List Float) (tol : Float) (slots limit : ℕ) (gap : Gap) where
   abbrev full : ℕ → Bool
@@ -98,17 +104,17 @@ module _ (ns : List Float) (tol : Float) (slots limit : ℕ) (gap : Gap) where
     unfolding round
     probed_as a p = rw (is-end, p)
 
-    pub round-refused : n * width ≤ length store → (k : Refusal) (r : EdgeFit) → Err k ≡ probed ns tol gap end → fit_in store r ≡ fit (ended (Err k)) cs u → Rounded (round ns tol slots full gap point cs u) store store (RoundEnd.Over r)
+    pub round-refused : n * width ≤ length store → (k : Refusal) (r : Run Point2) → Err k ≡ probed ns tol gap end → fit_in store r ≡ fit (ended (Err k)) cs u → RoundTold (round ns tol slots full gap point cs u) store store n (Break r)
     unfolding after_probe
     round-refused h k r p e =
         rw (← probed_as (Err k) p) (record { returned = ap stops e; left = sym (stored-again store n (omega arith)) })
 
-    pub round_missed : n * width ≤ length store → (r : EdgeFit) → Ok None ≡ probed ns tol gap end → fit_in store r ≡ fit (ended (Ok point)) cs u → Rounded (round ns tol slots full gap point cs u) store store (RoundEnd.Over r)
+    pub round_missed : n * width ≤ length store → (r : Run Point2) → Ok None ≡ probed ns tol gap end → fit_in store r ≡ fit (ended (Ok point)) cs u → RoundTold (round ns tol slots full gap point cs u) store store n (Break r)
     unfolding after_probe
     round_missed h r p e =
         rw (← probed_as (Ok None) p) (record { returned = ap stops e; left = sym (stored-again store n (omega arith)) })
 
-    module _ (fits : n ≤ slots) (within : u ≤ limit) (c : Inscribed) (p : Ok (Some c) ≡ probed ns tol gap end) (ran : Run) (after : List Float)
+    module _ (fits : n ≤ slots) (within : u ≤ limit) (c : Inscribed) (p : Ok (Some c) ≡ probed ns tol gap end) (ran : Run (Unit {0})) (after : List Float)
         (is : listed_run ran after ≡ reported store (refine_run ns tol slots full cs (c ∷ []) u)) where
       abbrev refined : Final State End
       refined = refine_run ns tol slots full cs (c ∷ []) u
@@ -140,13 +146,10 @@ module _ (ns : List Float) (tol : Float) (slots limit : ℕ) (gap : Gap) where
           let q = refined_part ns tol slots limit [] cs c u fits_list within in
           omega (arith, count_is, ap length q.1, length-append cs q.0, length-circles store 0 n)
 
-      pub ran-fits : ran.count ≤ slots
-      ran-fits = omega (arith, count_is, refined_fits ns tol slots limit [] cs c u fits_list within)
-
       held : circles_of after ran.count ≡ ds
       held = rw (store_is, count_is) (circles_of-stored ds store)
 
-      pub round_refined : (r : RoundEnd) → round_in after r ≡ after_refined gap point (circles_of after ran.count) ran.units (listed_end ran.end) → Rounded (round ns tol slots full gap point cs u) store after r
+      pub round_refined : (r : ControlFlow (Run Point2) Reached) → round_in after ran.count r ≡ after_refined gap point (circles_of after ran.count) ran.units (listed_end ran.end) → RoundTold (round ns tol slots full gap point cs u) store after ran.count r
       unfolding after_probe
       round_refined r e =
           rw (← probed_as (Ok (Some c)) p)

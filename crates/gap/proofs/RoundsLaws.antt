@@ -14,11 +14,17 @@ use Rattle.inscribed.proofs.StoreLaws.{length-circles, stored_longer}
 use Rattle.inscribed.specs.declared.Inscribed.{Inscribed}
 use Rattle.gap.specs.declared.Gap.{Gap}
 use Rattle.gap.specs.declared.round.Reached.{Reached}
-use Rattle.gap.specs.declared.round.RoundEnd.{RoundEnd}
-use Rattle.gap.specs.declared.EdgeFit.{EdgeFit}
+use Rattle.std.specs.declared.ops.ControlFlow.{ControlFlow}
+use Rattle.std.specs.declared.ops.ControlFlow.TheVariants.{Continue, Break}
+use Rattle.refine.specs.declared.Run.{Run}
 use Rattle.gap.specs.Rounds.{Fit, fit, Progress, progress, Round, stops, goes, round, onward, rounds}
-use Rattle.gap.specs.Code.{fit_in, progress_in, round_circles, round_units, Rounded, Fits}
-use Rattle.gap.proofs.RoundLaws.{Kept, round-kept}
+use Rattle.gap.specs.Code.{fit_in, progress_in, round_circles, round_units}
+use Rattle.gap.proofs.RoundLaws.{RoundTold, Kept, round-kept}
+
+-- what r returns and leaves, in a store that held `old`: a fit as a whole
+pub record FitTold (is : Fit) (old store : List Float) (r : Run Point2) : Type 0 where
+  pub returned : fit_in store r ≡ is
+  pub left : store ≡ stored is.circles old
 
 -- a fit that has lost no circle, and whose circles fit
 pub record Grown (slots : ℕ) (cs : List Inscribed) (f : Fit) : Type 0 where
@@ -47,7 +53,7 @@ module _ (ns : List Float) (tol : Float) (slots limit : ℕ) (gap : Gap) where
       now_at = progress point drift held_now u
 
       -- the fit ends with the point
-      pub ends_here : fit (ended (Ok point)) held_now u ≡ rounds ns tol slots full gap k now_at → (r : EdgeFit) → fit_in store r ≡ fit (ended (Ok point)) held_now u → Fits whole old store r
+      pub ends_here : fit (ended (Ok point)) held_now u ≡ rounds ns tol slots full gap k now_at → (r : Run Point2) → fit_in store r ≡ fit (ended (Ok point)) held_now u → FitTold whole old store r
       ends_here e r f =
           let g : fit (ended (Ok point)) held_now u ≡ whole = e ∙ l.left in
           record { returned = f ∙ g; left = l.holds ∙ ap (λ (x : Fit). stored x.circles old) g }
@@ -60,8 +66,8 @@ module _ (ns : List Float) (tol : Float) (slots limit : ℕ) (gap : Gap) where
       unfolding rounds
       still j e t = rw (e, t)
 
-      module _ (j : ℕ) (e : k ≡ suc j) (t : le drift tol ≡ false) (after : List Float) (r : RoundEnd)
-          (is : Rounded (round ns tol slots full gap point held_now u) store after r) where
+      module _ (j : ℕ) (e : k ≡ suc j) (t : le drift tol ≡ false) (after : List Float) (m : ℕ) (r : ControlFlow (Run Point2) Reached)
+          (is : RoundTold (round ns tol slots full gap point held_now u) store after m r) where
         abbrev this : Round
         this = round ns tol slots full gap point held_now u
 
@@ -82,23 +88,23 @@ module _ (ns : List Float) (tol : Float) (slots limit : ℕ) (gap : Gap) where
         unfolding rounds
         goes_on = (rw (e, t) at l.left)
 
-        pub round-over : (f : EdgeFit) → r ≡ RoundEnd.Over f → Fits whole old after f
+        pub round-over : (f : Run Point2) → r ≡ Break f → FitTold whole old after f
         unfolding onward
         round-over f q =
             let s : stops (fit_in after f) ≡ this = rw q at is.returned in
             let g : fit_in after f ≡ whole = rw (← s) at goes_on in
             record { returned = g; left = over_old ∙ ap (λ (x : Round). stored (round_circles x) old) (sym s) ∙ ap (λ (x : Fit). stored x.circles old) g }
 
-        pub round_next : (m : Reached) → r ≡ RoundEnd.Next m → Left after j m.point m.drift m.count m.units
+        pub round_next : (x : Reached) → r ≡ Continue x → Left after j x.point x.drift m x.units
         unfolding onward
-        round_next m q =
-            let s : goes (progress_in after m) ≡ this = rw q at is.returned in
-            let long : m.count ≡ length (round_circles this) = sym (length-circles after 0 m.count) ∙ ap (λ (x : Round). length (round_circles x)) s in
+        round_next x q =
+            let s : goes (progress_in after m x) ≡ this = rw q at is.returned in
+            let long : m ≡ length (round_circles this) = sym (length-circles after 0 m) ∙ ap (λ (y : Round). length (round_circles y)) s in
             record {
               low = omega (arith, long, ap length kept.grown, length-append held_now kept.more, length-circles store 0 n, l.low);
               fits = omega (arith, long, kept.fits);
               within = omega (arith, ap round_units s, kept.within);
-              holds = over_old ∙ ap (λ (x : Round). stored (round_circles x) old) (sym s);
+              holds = over_old ∙ ap (λ (y : Round). stored (round_circles y) old) (sym s);
               left = rw (← s) at goes_on;
             }
 

@@ -10,7 +10,6 @@ use Rattle.inscribed.specs.declared.Inscribed.{Inscribed}
 use Rattle.refine.specs.Machine.{State, circles_in, End, refine_run}
 use Rattle.lists.specs.Ends.{last_pair}
 use Rattle.gap.specs.declared.Gap.{Gap}
-use Rattle.gap.specs.declared.EdgeEnd.{EdgeEnd}
 use Rattle.gap.specs.declared.round.Moved.{Moved}
 use Rattle.gap.specs.Gap.{cap_intersection}
 use Rattle.gap.specs.Probe.{probed}
@@ -97,10 +96,3 @@ rounds ns tol slots full gap zero p = fit (ended (Ok p.point)) p.circles p.units
 rounds ns tol slots full gap (suc left) p =
     let on = onward (rounds ns tol slots full gap left) (round ns tol slots full gap p.point p.circles p.units) in
     cond (le p.drift tol) (fit (ended (Ok p.point)) p.circles p.units) on
-
--- ---- what a fit returns
-
-abbrev pub listed_edge_end : EdgeEnd → Ending FitEnd
-listed_edge_end (EdgeEnd.Fitted p) = ended (Ok p)
-listed_edge_end EdgeEnd.Spent = spent
-listed_edge_end (EdgeEnd.Refused r) = ended (Err r)

@@ -1,17 +1,21 @@
 // The gap of a section that passed the entry tests, and the rounds of a fit into it.
-ghost use Rattle.std.specs.Prelude.{◌≡◌, ◌*◌, ◌≤◌, length};
+ghost use Rattle.std.specs.Prelude.{◌≡◌, ◌≤◌};
 ghost use Rattle.gap.specs.Gap.{gap_of};
 ghost use Rattle.runs.specs.Run.{under_limit};
-ghost use Rattle.inscribed.specs.Store.{width, circles_of};
+ghost use Rattle.inscribed.specs.Changes.{in_use};
 ghost use Rattle.gap.specs.Code.{Fits};
 ghost use Rattle.gap.specs.Rounds.{rounds, first_progress};
 
-use crate::round::RoundEnd;
-use crate::{EdgeFit, Gap, round};
+use crate::round::Reached;
+use crate::{Gap, round};
 use curve2::checked::{Curve2, vertex_at};
 use errors::Refusal;
+use inscribed::checked::CirclesStore;
 use line2::Line2;
 use points::Point2;
+use refine::Run;
+use runs::Units;
+use std::ops::ControlFlow;
 
 // The gap from the first point of a section to its last: 17 where the section is closed.
 #[tactic(auto, unfolding(crate::specs::Gap::gap_of))]
@@ -37,33 +41,31 @@ const MOST_ROUNDS: usize = 20;
 pub fn rounds(
     section: &Curve2<'_>,
     tol: f64,
-    store: &mut [f64],
-    slots: usize,
-    count: usize,
+    circles: &mut CirclesStore<'_>,
     gap: Gap,
     first: Point2,
     limit: u32,
-) -> EdgeFit
-    requires le_count { (2 ≤ count) × (count ≤ slots) × (slots * width ≤ length store.old) }
-    ensures { Fits (rounds section.now.points.now tol slots (under_limit limit) gap 20 (first_progress first (circles_of store.old count))) store.old store.new result }
+) -> Run<Point2>
+    requires { 2 ≤ circles.old.count }
+    ensures { Fits (rounds section.now.points.now tol circles.old.slots (under_limit limit) gap 20 (first_progress first (in_use circles.old))) circles.old circles.new result }
 {
-    let mut point = first;
-    let mut drift = f64::INFINITY;
-    let mut n = count;
-    let mut u = 0;
+    let mut reached = Reached {
+        point: first,
+        drift: f64::INFINITY,
+        units: 0,
+    };
     for turn in 0..MOST_ROUNDS {
-        if drift <= tol {
-            return EdgeFit::fitted(point, n, u);
+        if reached.drift <= tol {
+            return Run::finished(reached.point, circles.count, reached.units);
         }
-        match round::round(section, tol, store, slots, n, gap, point, limit, u) {
-            RoundEnd::Over(fit) => return fit,
-            RoundEnd::Next(m) => {
-                point = m.point;
-                drift = m.drift;
-                n = m.count;
-                u = m.units;
-            }
+        let units = Units {
+            limit,
+            taken: reached.units,
+        };
+        match round::round(section, tol, circles, gap, reached.point, units) {
+            ControlFlow::Break(fit) => return fit,
+            ControlFlow::Continue(next) => reached = next,
         }
     }
-    EdgeFit::fitted(point, n, u)
+    Run::finished(reached.point, circles.count, reached.units)
 }

@@ -12,6 +12,7 @@ use lists::ends;
 use lists::ends::Pair;
 use points::AngleDir;
 
+// The lesser of two values. Not `f64::min`: of values that compare equal, as 0 and -0, that may give either.
 fn lesser(a: f64, b: f64) -> f64
     ensures { result ≡ lesser a b }
 {

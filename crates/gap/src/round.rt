@@ -1,18 +1,21 @@
 // One round of a fit into the gap of an open section. The end that is meant is that of the last circles in the store.
-ghost use Rattle.std.specs.Prelude.{◌≡◌, ◌*◌, ◌≤◌, length};
+ghost use Rattle.std.specs.Prelude.{◌≡◌, ◌≤◌};
 ghost use Rattle.runs.specs.Run.{under_limit};
-ghost use Rattle.inscribed.specs.Store.{width, circles_of};
+ghost use Rattle.inscribed.specs.Store.{circles_of};
+ghost use Rattle.inscribed.specs.Changes.{in_use};
 ghost use Rattle.refine.specs.Report.{listed_end};
 ghost use Rattle.gap.specs.Rounds.{moved_point, after_refined, round};
-ghost use Rattle.gap.specs.Code.{round_in, Rounded};
+ghost use Rattle.gap.specs.Code.{round_in, round_count, Rounded};
 
-use crate::{EdgeFit, Gap, probe};
+use crate::{Gap, probe};
 use curve2::checked::Curve2;
 use errors::Refusal;
-use inscribed::checked::CirclesInUse;
+use inscribed::checked::{CirclesInUse, CirclesStore};
 use lists::checked::last_pair;
 use points::Point2;
 use refine::{Run, RunEnd};
+use runs::Units;
+use std::ops::ControlFlow;
 
 // The edge point of a round, and how far it has moved.
 #[derive(Clone, Copy)]
@@ -26,15 +29,7 @@ pub struct Moved {
 pub struct Reached {
     pub point: Point2,
     pub drift: f64,
-    pub count: usize,
     pub units: u32,
-}
-
-// A round ends the fit, or another may follow.
-#[derive(Clone, Copy)]
-pub enum RoundEnd {
-    Over(EdgeFit),
-    Next(Reached),
 }
 
 // The camber line drawn on again, and how far the point has moved.
@@ -50,30 +45,30 @@ fn moved_point(circles: &CirclesInUse<'_>, gap: Gap, point: Point2) -> Result<Mo
     })
 }
 
-// What follows the refinement of a round.
+// What follows the refinement of a round: the fit is over, or another round may follow.
 #[tactic(auto, unfolding(crate::specs::Rounds::after_refined, crate::specs::Rounds::after_move))]
-fn after_refined(store: &[f64], gap: Gap, point: Point2, ran: Run) -> RoundEnd
-    requires { (2 ≤ ran.count) × (ran.count * width ≤ length store.now) }
-    ensures { round_in store.now result ≡ after_refined gap point (circles_of store.now ran.count) ran.units (listed_end ran.end) }
+fn after_refined(
+    circles: &CirclesInUse<'_>,
+    gap: Gap,
+    point: Point2,
+    end: RunEnd<()>,
+    units: u32,
+) -> ControlFlow<Run<Point2>, Reached>
+    requires { 2 ≤ circles.now.count }
+    ensures round { round_in circles.now.store.now circles.now.count result ≡ after_refined gap point (circles_of circles.now.store.now circles.now.count) units (listed_end end) }
+    ensures count { round_count circles.now.count result ≡ circles.now.count }
 {
-    match ran.end {
-        RunEnd::Finished => {
-            let circles = CirclesInUse {
-                store,
-                count: ran.count,
-            };
-            match moved_point(&circles, gap, point) {
-                Ok(moved) => RoundEnd::Next(Reached {
-                    point: moved.point,
-                    drift: moved.drift,
-                    count: ran.count,
-                    units: ran.units,
-                }),
-                Err(r) => RoundEnd::Over(EdgeFit::refused(r, ran.count, ran.units)),
-            }
-        }
-        RunEnd::Spent => RoundEnd::Over(EdgeFit::spent(ran.count, ran.units)),
-        RunEnd::Refused(r) => RoundEnd::Over(EdgeFit::refused(r, ran.count, ran.units)),
+    match end {
+        RunEnd::Finished(()) => match moved_point(circles, gap, point) {
+            Ok(moved) => ControlFlow::Continue(Reached {
+                point: moved.point,
+                drift: moved.drift,
+                units,
+            }),
+            Err(r) => ControlFlow::Break(Run::refused(r, circles.count, units)),
+        },
+        RunEnd::Spent => ControlFlow::Break(Run::spent(circles.count, units)),
+        RunEnd::Refused(r) => ControlFlow::Break(Run::refused(r, circles.count, units)),
     }
 }
 
@@ -81,24 +76,21 @@ fn after_refined(store: &[f64], gap: Gap, point: Point2, ran: Run) -> RoundEnd
 pub(crate) fn round(
     section: &Curve2<'_>,
     tol: f64,
-    store: &mut [f64],
-    slots: usize,
-    count: usize,
+    circles: &mut CirclesStore<'_>,
     gap: Gap,
     point: Point2,
-    limit: u32,
-    units: u32,
-) -> RoundEnd
-    requires le_count { (2 ≤ count) × (count ≤ slots) × (slots * width ≤ length store.old) × (units ≤ limit) }
-    ensures { Rounded (round section.now.points.now tol slots (under_limit limit) gap point (circles_of store.old count) units) store.old store.new result }
+    units: Units,
+) -> ControlFlow<Run<Point2>, Reached>
+    requires { 2 ≤ circles.old.count }
+    ensures { Rounded (round section.now.points.now tol circles.old.slots (under_limit units.limit) gap point (in_use circles.old) units.taken) circles.old circles.new result }
 {
-    let end = last_pair(&CirclesInUse { store, count });
+    let end = last_pair(&circles.in_use());
     match probe::probe(section, tol, gap, end) {
         Ok(Some(c)) => {
-            let ran = refine::checked::refine(section, tol, store, slots, count, c, limit, units);
-            after_refined(store, gap, point, ran)
+            let ran = refine::checked::refine(section, tol, circles, c, units);
+            after_refined(&circles.in_use(), gap, point, ran.end, ran.units)
         }
-        Ok(None) => RoundEnd::Over(EdgeFit::fitted(point, count, units)),
-        Err(r) => RoundEnd::Over(EdgeFit::refused(r, count, units)),
+        Ok(None) => ControlFlow::Break(Run::finished(point, circles.count, units.taken)),
+        Err(r) => ControlFlow::Break(Run::refused(r, circles.count, units.taken)),
     }
 }

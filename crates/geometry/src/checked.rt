@@ -3,7 +3,6 @@ ghost use Rattle.std.specs.Prelude.{◌≡◌, false, ◌+◌, ◌*◌, ◌≤�
 ghost use Rattle.cleaning.specs.Cleaning.{curve_of, Made};
 ghost use Rattle.geometry.specs.Camber.{centers};
 ghost use Rattle.geometry.specs.Code.{put_all};
-ghost use Rattle.inscribed.specs.Store.{most_slots};
 
 use cleaning::Curve;
 use cleaning::checked::{clean_points, put};
@@ -11,7 +10,7 @@ use errors::Refusal;
 use inscribed::checked::CirclesInUse;
 use inscribed::store::MOST_SLOTS;
 
-// The numbers of the centres of a full store and of two end points.
+// The numbers of the centres of a full store and of two end points. They stand in an array: the library takes no memory from the heap.
 pub(crate) const MOST_NUMBERS: usize = 2 * (MOST_SLOTS + 2);
 
 // Puts the centres of the circles one after the other, the first at place `first`.
@@ -30,7 +29,7 @@ pub fn centers_curve(
     tol: f64,
     out: &mut [f64],
 ) -> Result<Curve, Refusal>
-    requires count_in_bounds { (1 ≤ circles.now.count) × (circles.now.count ≤ most_slots) }
+    requires least { 1 ≤ circles.now.count }
     requires room { 2 * circles.now.count + 2 ≤ length out.old }
     ensures { Made (curve_of tol false (centers circles.now.store.now circles.now.count)) tol out.old out.new result }
 {

@@ -7,7 +7,6 @@ pub mod checked;
 ghost use Rattle.std.specs.Prelude.{false, ◌∷◌, [], ◌++◌, ◌+◌, ◌*◌, ◌≤◌, length};
 ghost use Rattle.cleaning.specs.Cleaning.{curve_of, Made};
 ghost use Rattle.geometry.specs.Camber.{centers, camber_curve, camber_curve_between};
-ghost use Rattle.inscribed.specs.Store.{most_slots};
 
 use checked::MOST_NUMBERS;
 use cleaning::Curve;
@@ -24,7 +23,6 @@ fn curve_between(
     tol: f64,
     out: &mut [f64],
 ) -> Result<Curve, Refusal>
-    requires count_in_bounds { circles.now.count ≤ most_slots }
     requires room { 2 * (circles.now.count + 2) + 2 ≤ length out.old }
     ensures { Made (curve_of tol false (le_point ∷ (centers circles.now.store.now circles.now.count ++ (te_point ∷ [])))) tol out.old out.new result }
 {

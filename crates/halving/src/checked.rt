@@ -10,9 +10,6 @@ use inscribed::Inscribed;
 use line2::Line2;
 use queries::Crossing;
 
-// 2 to the power -52.
-const TWO_TO_MINUS_52: f64 = 2.220446049250313e-16;
-
 // Halves from the ends of the line.
 #[tactic(auto, unfolding(crate::specs::Halving::halved_from))]
 fn halved_from(
@@ -43,7 +40,7 @@ pub fn from_line(section: &Curve2<'_>, tol: f64, line: Line2) -> Result<Inscribe
 {
     let resolve = tol * 0.1;
     let len = line.direction.norm()?;
-    if resolve < TWO_TO_MINUS_52 * len {
+    if resolve < f64::EPSILON * len {
         return Err(Refusal::TooLong);
     }
     halved_from(section, line, resolve, len)

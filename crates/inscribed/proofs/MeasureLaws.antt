@@ -6,7 +6,8 @@ use Prim.Native.Nat.{ℕ, zero, suc, ◌+◌, ◌-◌, ◌≤◌, ◌<◌}
 use native.Mathlib.Numerals.{add-one}
 use native.Mathlib.Nat.{add-zero}
 use native.Mathlib.Omega.{arith}
-use lib.ListN.{length, get_or}
+use lib.ListN.{length, get_or, drop, drop_of_length-le}
+use lib.Seq.{drop-cons}
 use lib.IntN.{pos}
 use lib.Ieee.{Float, nan, inf, fin, lt, of_int, binary64}
 use Rattle.std.specs.Prelude.{Ok, Err}
@@ -55,25 +56,20 @@ unfolding tmax_from tmax
 tmax_from_first [] = refl
 tmax_from_first (c ∷ cs) = rw (never_less c.r)
 
-pub tmax_start : (ns : List Float) (count : ℕ) → tmax_from 0 nan 0 (circles_from ns 0 (count - 0)) ≡ tmax (circles_of ns count)
-tmax_start ns count = let z : count - 0 ≡ count = omega arith in rw z (tmax_from_first (circles_of ns count))
+-- the greatest so far, and the circles left
+module _ (cs : List Inscribed) (best : ℕ) (most : Float) (k : ℕ) (inv : tmax_from best most k (drop k cs) ≡ tmax cs) where
+  module _ (d : Inscribed) (h : k < length cs) where
+    pub tmax_kept : lt (get_or cs k d).r most ≡ true → tmax_from best most (k + 1) (drop (k + 1) cs) ≡ tmax cs
+    unfolding tmax_from
+    tmax_kept p = rw (add-one k) (rw (drop-cons cs k d h, p) at inv)
 
-module _ (ns : List Float) (count best : ℕ) (most : Float) (k whole : ℕ) (inv : tmax_from best most k (circles_from ns k (count - k)) ≡ whole) where
-  module _ (h : k < count) where
-    later : count - k ≡ suc (count - (k + 1))
-    later = omega arith
+    pub tmax_won : lt (get_or cs k d).r most ≡ false → tmax_from k (get_or cs k d).r (k + 1) (drop (k + 1) cs) ≡ tmax cs
+    unfolding tmax_from
+    tmax_won p = rw (add-one k) (rw (drop-cons cs k d h, p) at inv)
 
-    pub tmax_kept : lt (circle_at ns k).r most ≡ true → tmax_from best most (k + 1) (circles_from ns (k + 1) (count - (k + 1))) ≡ whole
-    unfolding tmax_from circles_from
-    tmax_kept p = rw (add-one k) (rw (later, p, add-one k) at inv)
-
-    pub tmax_won : lt (circle_at ns k).r most ≡ false → tmax_from k (circle_at ns k).r (k + 1) (circles_from ns (k + 1) (count - (k + 1))) ≡ whole
-    unfolding tmax_from circles_from
-    tmax_won p = rw (add-one k) (rw (later, p, add-one k) at inv)
-
-  pub tmax_over : count ≤ k → best ≡ whole
-  unfolding tmax_from circles_from
-  tmax_over h = let z : count - k ≡ 0 = omega arith in rw z at inv
+  pub tmax_over : length cs ≤ k → best ≡ tmax cs
+  unfolding tmax_from
+  tmax_over h = rw (drop_of_length-le cs h) at inv
 
 tmax_from_lem : (best : ℕ) (most : Float) (k : ℕ) (cs : List Inscribed) → best < k → tmax_from best most k cs < k + length cs
 unfolding tmax_from

@@ -3,3 +3,4 @@ pub mod Circles
 pub mod Store
 pub mod Lists
 pub mod Code
+pub mod Changes

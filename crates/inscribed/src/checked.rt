@@ -1,11 +1,12 @@
 // The circles of a store: one read or written, what is told of those in use, and their order and contacts turned.
-ghost use Rattle.std.specs.Prelude.{◌≡◌, map, reverse, ◌+◌, ◌*◌, ◌≤◌, ◌<◌, length};
+ghost use Rattle.std.specs.Prelude.{◌≡◌, ℕ, List, Float, slice_index_or, map, reverse, ◌+◌, ◌-◌, ◌*◌, ◌≤◌, ◌<◌, length};
+ghost use Rattle.inscribed.specs.declared.Inscribed.{Inscribed as Circle};
 ghost use Rattle.inscribed.specs.Circles.{reversed_points};
-ghost use Rattle.inscribed.specs.Store.{width, most_slots, circle_at, circles_of, stored};
+ghost use Rattle.inscribed.specs.Store.{slots as slots_of, width, most_slots, circle_at, circles_of, stored};
 ghost use Rattle.inscribed.specs.Code.{with_circle};
 ghost use Rattle.inscribed.specs.Lists.{turned, front_and_back, tmax, spacing_after, average_spacing};
 
-use crate::store::WIDTH;
+use crate::store::{WIDTH, slots_in};
 use crate::{FrontAndBack, Inscribed};
 use errors::Refusal;
 
@@ -15,6 +16,17 @@ pub struct CirclesInUse<'a> {
     pub store: &'a [f64],
     pub count: usize,
     pub ghost in_store: { count * width ≤ length store.now },
+    pub ghost few: { count ≤ most_slots },
+}
+
+// The circles in use of a store that is changed: the store's numbers, how many circles it has room for, and how many are in use.
+#[derive(Drop)]
+pub struct CirclesStore<'a> {
+    pub store: &'a mut [f64],
+    pub slots: usize,
+    pub count: usize,
+    pub ghost in_store: { (count ≤ slots) × (slots * width ≤ length store.now) },
+    pub ghost few: { slots ≤ most_slots },
 }
 
 // The circle in slot k.
@@ -45,6 +57,24 @@ pub fn put_circle(store: &mut [f64], k: usize, c: Inscribed)
 {
     let i = k * WIDTH;
     store[i..i + WIDTH].copy_from_slice(&c.numbers());
+}
+
+// The place of the greatest of `count` radii, the last of equal ones; 0 where there is none.
+pub fn index_of_greatest<F: Fn(usize) -> f64>(count: usize, radius: F) -> usize
+    requires { (k : ℕ) → k < count → F.pre radius k }
+    ensures { (cs : List Circle) (d : Circle) → length cs ≡ count → ((k : ℕ) (r : Float) → k < count → F.post radius k r → r ≡ (slice_index_or cs k d).r) → result ≡ tmax cs }
+{
+    let mut best = 0;
+    // No radius is less than a NaN, so the first one wins.
+    let mut most = f64::NAN;
+    for k in 0..count {
+        let r = radius(k);
+        if !(r < most) {
+            best = k;
+            most = r;
+        }
+    }
+    best
 }
 
 // The sum of distances after that of two neighbours.
@@ -80,27 +110,15 @@ impl CirclesInUse<'_> {
     }
 
     // The place of the thickest circle, the last of equal ones; 0 where there is none.
-    #[tactic(auto, using(crate::proofs::MeasureLaws::tmax_kept, crate::proofs::MeasureLaws::tmax_won, crate::proofs::MeasureLaws::tmax_over))]
     pub fn index_of_tmax(&self) -> usize
         ensures { result ≡ tmax (circles_of self.now.store.now self.now.count) }
     {
-        let mut best = 0;
-        // No radius is less than a NaN, so the first circle wins.
-        let mut most = f64::NAN;
-        for k in 0..self.count {
-            let r = self.at(k).r;
-            if !(r < most) {
-                best = k;
-                most = r;
-            }
-        }
-        best
+        index_of_greatest(self.count, |k| self.at(k).r)
     }
 
     // The mean distance of neighbouring centres: 7 for fewer than two circles.
     #[tactic(auto, using(crate::proofs::MeasureLaws::too_few))]
     pub fn average_spacing(&self) -> Result<f64, Refusal>
-        requires { self.now.count ≤ most_slots }
         ensures { result ≡ average_spacing (circles_of self.now.store.now self.now.count) }
     {
         if self.count < 2 {
@@ -114,37 +132,85 @@ impl CirclesInUse<'_> {
     }
 }
 
-// Turns the order of the first circles of a store. Each keeps its contacts.
-pub fn reverse_order_only(store: &mut [f64], count: usize)
-    requires { count * width ≤ length store.old }
-    ensures { store.new ≡ stored (reverse (circles_of store.old count)) store.old }
-{
-    for i in 0..count / 2 {
-        let j = count - 1 - i;
-        let a = circle_at(store, i);
-        let b = circle_at(store, j);
-        put_circle(store, i, b);
-        put_circle(store, j, a);
+impl<'a> CirclesStore<'a> {
+    // A store of which `count` circles are in use.
+    pub fn new(store: &'a mut [f64], count: usize) -> CirclesStore<'a>
+        requires { (count * width ≤ length store.old) × (count ≤ most_slots) }
+        ensures same { result.store.ghost_name ≡ store.entry.ghost_name }
+        ensures held { (result.store.now ≡ store.entry.now) × (result.slots ≡ slots_of store.entry.now) × (result.count ≡ count) }
+    {
+        let slots = slots_in(store.len());
+        CirclesStore {
+            store,
+            slots,
+            count,
+        }
     }
 }
 
-// Swaps the contacts of each of the first circles of a store.
-#[tactic(auto, using(crate::proofs::TurningLaws::swap_start, crate::proofs::TurningLaws::swap_step, crate::proofs::TurningLaws::swap_over))]
-pub fn reverse_points(store: &mut [f64], count: usize)
-    requires { count * width ≤ length store.old }
-    ensures { store.new ≡ stored (map reversed_points (circles_of store.old count)) store.old }
-{
-    for k in 0..count {
-        put_circle(store, k, circle_at(store, k).reverse_points());
-    }
-}
+impl CirclesStore<'_> {
+    ghost use Rattle.inscribed.specs.Changes.{Becomes, in_use};
 
-// Turns the order of the first circles of a store, and swaps the contacts of each.
-#[tactic(auto, using(crate::proofs::TurningLaws::turn_both))]
-pub fn reverse_order(store: &mut [f64], count: usize)
-    requires { count * width ≤ length store.old }
-    ensures { store.new ≡ stored (turned (circles_of store.old count)) store.old }
-{
-    reverse_order_only(store, count);
-    reverse_points(store, count);
+    // The circles in use.
+    pub fn in_use(&self) -> CirclesInUse<'_>
+        ensures { (result.store.now ≡ self.now.store.now) × (result.count ≡ self.now.count) }
+    {
+        CirclesInUse {
+            store: self.store,
+            count: self.count,
+        }
+    }
+
+    // The last circle.
+    pub fn last(&self) -> Inscribed
+        requires { 0 < self.now.count }
+        ensures { result ≡ circle_at self.now.store.now (self.now.count - 1) }
+    {
+        circle_at(self.store, self.count - 1)
+    }
+
+    // Adds a circle behind the last.
+    pub fn push(&mut self, c: Inscribed)
+        requires { self.old.count < self.old.slots }
+        ensures { Becomes self.old self.new (with_circle self.old.store.now self.old.count c) (self.old.count + 1) }
+    {
+        put_circle(self.store, self.count, c);
+        self.count += 1;
+    }
+
+    // Turns the order of the circles. Each keeps its contacts.
+    pub fn reverse_order_only(&mut self)
+        ensures { Becomes self.old self.new (stored (reverse (in_use self.old)) self.old.store.now) self.old.count }
+    {
+        let count = self.count;
+        let store = &mut *self.store;
+        for i in 0..count / 2 {
+            let j = count - 1 - i;
+            let a = circle_at(store, i);
+            let b = circle_at(store, j);
+            put_circle(store, i, b);
+            put_circle(store, j, a);
+        }
+    }
+
+    // Swaps the contacts of each circle.
+    #[tactic(auto, using(crate::proofs::TurningLaws::swap_start, crate::proofs::TurningLaws::swap_step, crate::proofs::TurningLaws::swap_over))]
+    pub fn reverse_points(&mut self)
+        ensures { Becomes self.old self.new (stored (map reversed_points (in_use self.old)) self.old.store.now) self.old.count }
+    {
+        let count = self.count;
+        let store = &mut *self.store;
+        for k in 0..count {
+            put_circle(store, k, circle_at(store, k).reverse_points());
+        }
+    }
+
+    // Turns the order of the circles, and swaps the contacts of each.
+    #[tactic(auto, using(crate::proofs::TurningLaws::turn_both))]
+    pub fn reverse_order(&mut self)
+        ensures { Becomes self.old self.new (stored (turned (in_use self.old)) self.old.store.now) self.old.count }
+    {
+        self.reverse_order_only();
+        self.reverse_points();
+    }
 }

@@ -22,19 +22,19 @@ impl SurfacePoint2 {
     }
 
     // normal · (p - point).
-    #[tactic(auto, unfolding(crate::specs::Rays::ray_projection))]
+    #[tactic(auto, unfolding(crate::specs::Rays::ray_projection, crate::specs::Lines::line_projection))]
     pub fn scalar_projection(self, p: Point2) -> Result<f64, Refusal>
         ensures { result ≡ ray_projection self p }
     {
-        self.normal.dot(p - self.point)
+        self.to_line().scalar_project(p)
     }
 
     // point + normal × distance.
-    #[tactic(auto, unfolding(crate::specs::Rays::at_distance))]
+    #[tactic(auto, unfolding(crate::specs::Rays::at_distance, crate::specs::Lines::at_param))]
     pub fn at_distance(self, distance: f64) -> Result<Point2, Refusal>
         ensures { result ≡ at_distance self distance }
     {
-        watch(self.point + self.normal * distance)
+        self.to_line().at(distance)
     }
 
     // The surface point moved along its normal.
@@ -69,11 +69,11 @@ impl SurfacePoint2 {
     }
 
     // The ray halfway to another: halfway between the points, along the sum of the normals.
-    #[tactic(auto, unfolding(crate::specs::Rays::halfway_ray, crate::specs::Rays::ray_normalized))]
+    #[tactic(auto, unfolding(crate::specs::Rays::halfway_ray, crate::specs::Rays::ray_normalized, points::specs::Points::mid_point_of))]
     pub fn halfway(self, other: SurfacePoint2) -> Result<SurfacePoint2, Refusal>
         ensures { result ≡ halfway_ray self other }
     {
-        let point = watch(self.point + (other.point - self.point) * 0.5)?;
+        let point = points::mid_point(other.point, self.point)?;
         SurfacePoint2::new_normalize(point, self.normal + other.normal)
     }
 }

@@ -13,7 +13,7 @@ ghost use Rattle.lists.specs.Asked.{store_entry, ends_asked, tmax_asked, spacing
 
 use errors::Refusal;
 use inscribed::FrontAndBack;
-use inscribed::checked::CirclesInUse;
+use inscribed::checked::{CirclesInUse, CirclesStore};
 use line2::Line2;
 
 // The entry tests of a store with a stated count. The circles in use are handed on where they passed.
@@ -68,28 +68,31 @@ pub fn end_clip_line(store: &[f64], count: usize) -> Result<Line2, Refusal>
 }
 
 // Swaps the contacts of every circle in use.
+#[tactic(auto, using(crate::proofs::Laws::store_passed))]
 pub fn reverse_points(store: &mut [f64], count: usize) -> Result<(), Refusal>
     ensures { Changed (map reversed_points) store.old count store.new result }
 {
     store_entry(store, count)?;
-    inscribed::checked::reverse_points(store, count);
+    CirclesStore::new(store, count).reverse_points();
     Ok(())
 }
 
 // Turns the order of the circles in use, and swaps the contacts of each.
+#[tactic(auto, using(crate::proofs::Laws::store_passed))]
 pub fn reverse_order(store: &mut [f64], count: usize) -> Result<(), Refusal>
     ensures { Changed turned store.old count store.new result }
 {
     store_entry(store, count)?;
-    inscribed::checked::reverse_order(store, count);
+    CirclesStore::new(store, count).reverse_order();
     Ok(())
 }
 
 // Turns the order of the circles in use. Each keeps its contacts.
+#[tactic(auto, using(crate::proofs::Laws::store_passed))]
 pub fn reverse_order_only(store: &mut [f64], count: usize) -> Result<(), Refusal>
     ensures { Changed reverse store.old count store.new result }
 {
     store_entry(store, count)?;
-    inscribed::checked::reverse_order_only(store, count);
+    CirclesStore::new(store, count).reverse_order_only();
     Ok(())
 }

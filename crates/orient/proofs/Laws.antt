@@ -26,9 +26,9 @@ orient_passed ns count bad e =
     (fits.0, omega (arith, ltb-false count 2 none.1.1.0), fits.1)
 
 -- an answer behind the entry tests
-pub asked_bounds : (ns : List Float) (count : ℕ) (bad : Bool) (more : Answer Bool) (b : Bool) → Ok b ≡ (orient_entry ns count bad >>= λ passed. more) → count * width ≤ length ns
+pub asked_bounds : (ns : List Float) (count : ℕ) (bad : Bool) (more : Answer Bool) (b : Bool) → Ok b ≡ (orient_entry ns count bad >>= λ passed. more) → (count * width ≤ length ns) × (count ≤ most_slots)
 asked_bounds ns count bad more b e = go (orient_entry ns count bad) refl e
   where
-    go : (x : Answer (Unit {0})) → orient_entry ns count bad ≡ x → Ok b ≡ (x >>= λ passed. more) → count * width ≤ length ns
-    go (Ok tt) p f = (orient_passed ns count bad (sym p)).0
+    go : (x : Answer (Unit {0})) → orient_entry ns count bad ≡ x → Ok b ≡ (x >>= λ passed. more) → (count * width ≤ length ns) × (count ≤ most_slots)
+    go (Ok tt) p f = let h = orient_passed ns count bad (sym p) in (h.0, h.2)
     go (Err n) p f = let z : ◌≡◌ {A = ℕ} 0 1 = cc in absurd (omega arith)

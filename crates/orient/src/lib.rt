@@ -10,13 +10,13 @@ mod voting;
 ghost use Rattle.std.specs.Prelude.{◌≡◌, IfOk, map, reverse, ◌≤◌};
 ghost use Rattle.errors.specs.Answer.{passed};
 ghost use Rattle.inscribed.specs.Circles.{reversed_points};
-ghost use Rattle.inscribed.specs.Store.{most_slots, circles_of};
+ghost use Rattle.inscribed.specs.Store.{circles_of};
 ghost use Rattle.orient.specs.Orientation.{orient_entry, bad_fwd, turn_of, fwd_asked, bad_upper, swap_of, upper_asked, Oriented};
 
 use camber::{MOST_NUMBERS, camber_curve};
 use errors::{Finite, Refusal};
 use geometry::centers::has_bad_center;
-use inscribed::checked::{CirclesInUse, reverse_order_only, reverse_points};
+use inscribed::checked::{CirclesInUse, CirclesStore};
 use inscribed::store;
 use points::Vector2;
 
@@ -66,7 +66,7 @@ fn is_bad_fwd(how: OrientFwdAft, store: &[f64], count: usize) -> bool
 // Whether the order of the circles has to be turned.
 #[tactic(auto, unfolding(crate::specs::Orientation::tmax_fwd, crate::specs::Orientation::tmax_on))]
 fn turn_of(how: OrientFwdAft, circles: &CirclesInUse<'_>) -> Result<bool, Refusal>
-    requires { (1 ≤ circles.now.count) × (circles.now.count ≤ most_slots) }
+    requires { 1 ≤ circles.now.count }
     ensures { result ≡ turn_of how (circles_of circles.now.store.now circles.now.count) }
 {
     match how {
@@ -101,7 +101,7 @@ fn is_bad_upper(how: OrientUpperLower, store: &[f64], count: usize) -> bool
 // Whether the contacts of the circles have to be swapped.
 #[tactic(auto, unfolding(crate::specs::Orientation::curvature_upper))]
 fn swap_of(how: OrientUpperLower, circles: &CirclesInUse<'_>) -> Result<bool, Refusal>
-    requires { (1 ≤ circles.now.count) × (circles.now.count ≤ most_slots) }
+    requires { 1 ≤ circles.now.count }
     ensures { result ≡ swap_of how (circles_of circles.now.store.now circles.now.count) }
 {
     match how {
@@ -123,6 +123,7 @@ fn check_upper(how: OrientUpperLower, store: &[f64], count: usize) -> Result<boo
     swap_of(how, &circles)
 }
 
+// Each of the two enums has a check and an `apply` of its own: their bodies are of one to three lines, and a trait for both, with its laws, would be longer.
 impl OrientFwdAft {
     // Brings the circles in use into leading-to-trailing order; says whether the order was turned. Contacts stay.
     pub fn apply(self, store: &mut [f64], count: usize) -> Result<bool, Refusal>
@@ -130,7 +131,7 @@ impl OrientFwdAft {
     {
         let turn = check_fwd(self, store, count)?;
         if turn {
-            reverse_order_only(store, count);
+            CirclesStore::new(store, count).reverse_order_only();
         }
         Ok(turn)
     }
@@ -143,7 +144,7 @@ impl OrientUpperLower {
     {
         let swap = check_upper(self, store, count)?;
         if swap {
-            reverse_points(store, count);
+            CirclesStore::new(store, count).reverse_points();
         }
         Ok(swap)
     }

@@ -17,7 +17,7 @@ use curve2::checked::Curve2;
 use curve2::{AlsoBad, CurveStation2, MOST_POINTS, entering};
 use errors::{Finite, Refusal};
 
-// The points that a walk gives the cleaning stand in an array of as many numbers: they are one more than the section's at most.
+// The points that a walk gives the cleaning stand in an array of as many numbers, since the library takes no memory from the heap: they are one more than the section's at most.
 const MOST_GIVEN: usize = 2 * MOST_POINTS;
 
 // Where a stretch begins and ends, with the lengths along there.
@@ -58,9 +58,8 @@ fn entered(section: &[f64], tol: f64, is_finite: bool, room: usize) -> Result<Cu
     }
     let also = AlsoBad {
         number: !is_finite,
-        tolerance: false,
-        finer: false,
         room: room < section.len() + 2,
+        ..AlsoBad::default()
     };
     entering::section_entry(section, tol, also)
 }

@@ -24,7 +24,7 @@ fn fraction_on(p: Point2, a: Point2, b: Point2) -> Result<f64, Refusal>
     watch(along / whole)
 }
 
-// A fraction held to 0 to 1.
+// A fraction held to 0 to 1. Not `f64::clamp`, by which -0 would stay.
 fn held_fraction(s: f64) -> f64
     ensures { result ≡ held s }
 {

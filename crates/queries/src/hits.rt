@@ -10,7 +10,7 @@ use errors::Refusal;
 use line2::Line2;
 use points::Point2;
 
-// The hits so far, as far as a crossing needs them.
+// The hits so far, as far as a crossing needs them: none, one, two, or more, so that this is no `Option`.
 #[derive(Clone, Copy)]
 pub enum Seen {
     Nothing,

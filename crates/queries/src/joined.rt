@@ -15,16 +15,11 @@ use line2::Line2;
 // One place for each edge that a section can have.
 pub(crate) const MOST_EDGES: usize = MOST_POINTS - 1;
 
-// Where a fraction goes: in front of the first hit whose own is greater.
+// Where a fraction goes: in front of the first hit whose own is greater. It is searched for from the front: a search by halves would ask each caller that the hits are sorted.
 fn place_of(hits: &[Hit], t: f64) -> usize
     ensures { result ≡ place_of t hits.now }
 {
-    for place in 0..hits.len() {
-        if t < hits[place].t {
-            return place;
-        }
-    }
-    hits.len()
+    hits.iter().position(|h| t < h.t).unwrap_or(hits.len())
 }
 
 // Puts a hit in its place.

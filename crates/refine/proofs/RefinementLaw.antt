@@ -21,7 +21,7 @@ use Rattle.inscribed.specs.Store.{width, slots, circles_of}
 use Rattle.inscribed.specs.declared.Inscribed.{Inscribed}
 use Rattle.inscribed.proofs.StoreLaws.{length-circles}
 use Rattle.refine.specs.Machine.{State, refining, advancing, stopped, circles_in, End, finished, refine_move, measure, refine_step}
-use Rattle.refine.specs.Report.{refused_on_entry, reported}
+use Rattle.refine.specs.Report.{Report, refused_on_entry, ran, reported}
 use Rattle.refine.specs.Refinement.{Offer, refine_entry, offered_run, after_entry, refinement, refine_of, plain_refinement, accepted_after, accepted}
 use Rattle.refine.specs.Law.{old_last, LimitLaw, OfferedLast}
 use Rattle.refine.proofs.MachineLaws.{refine_grows, Sound, refine_sound_goes, refine_sound_pays, Kept, refine_offered_goes, refine_offered_pays}
@@ -101,3 +101,7 @@ module _ (o : Offer) where
           (refine_offered_goes o.section o.tol o.count (slots o.store) o.circle) (refine_offered_pays o.section o.tol o.count (slots o.store) o.circle)
           (suc (measure (slots o.store) start)) start 0 start_kept)
           (ended_step step (under_limit limit) (suc (measure (slots o.store) start)) start 0 finished (result-number _ e).1)
+
+-- what a call tells of the store that its run leaves, which has two names
+pub ran_in : {A : Type 0} (told : List Float → Report A) (store again : List Float) (o : Report A) → store ≡ again → told again ≡ o → ran (told store) ≡ ran o
+ran_in told store again o same e = rw (same, e) refl

@@ -1,5 +1,6 @@
 -- Refinement: `refine_and_push` as a run counted in units.
 pub mod Machine
 pub mod Report
+pub mod Code
 pub mod Refinement
 pub mod Law

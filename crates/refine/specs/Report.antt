@@ -4,7 +4,7 @@ use Rattle.errors.specs.Answer.{Answer, number_of, number}
 use Rattle.errors.specs.declared.Refusal.{Refusal}
 use Rattle.runs.specs.Run.{Ending, ended, spent, unfinished, Final}
 use Rattle.inscribed.specs.Store.{stored}
-use Rattle.refine.specs.Machine.{State, circles_in, End, finished}
+use Rattle.refine.specs.Machine.{State, circles_in, End}
 use Rattle.refine.specs.declared.RunEnd.{RunEnd}
 use Rattle.refine.specs.declared.Run.{Run}
 
@@ -64,14 +64,14 @@ reported old o = record { ending = o.ending; count = length (circles_in o.state)
 
 -- ---- what the functions return
 
-abbrev pub listed_end : RunEnd → Ending End
-listed_end RunEnd.Finished = ended finished
+abbrev pub listed_end : {A : Type 0} → RunEnd A → Ending (Answer A)
+listed_end (RunEnd.Finished a) = ended (Ok a)
 listed_end RunEnd.Spent = spent
 listed_end (RunEnd.Refused r) = ended (Err r)
 
-abbrev pub listed_run : Run → List Float → RunReport
+abbrev pub listed_run : {A : Type 0} → Run A → List Float → Report A
 listed_run r store = record { ending = listed_end r.end; count = r.count; units = r.units; store = store }
 
-abbrev pub listed_called : Answer Run → List Float → Called (Unit {0})
+abbrev pub listed_called : {A : Type 0} → Answer (Run A) → List Float → Called A
 listed_called (Ok r) store = ran (listed_run r store)
 listed_called (Err r) store = refused_on_entry r store

@@ -1,36 +1,33 @@
 // The run of `refine_and_push` on a section and a store that passed the entry tests, counted in units.
-ghost use Rattle.std.specs.Prelude.{◌≡◌, [], ◌∷◌, ◌*◌, ◌≤◌, length};
+ghost use Rattle.std.specs.Prelude.{[], ◌∷◌, ◌≤◌};
 ghost use Rattle.runs.specs.Run.{under_limit};
-ghost use Rattle.inscribed.specs.Store.{width, circles_of};
+ghost use Rattle.inscribed.specs.Changes.{in_use};
 ghost use Rattle.refine.specs.Machine.{refine_run};
-ghost use Rattle.refine.specs.Report.{reported, listed_run};
+ghost use Rattle.refine.specs.Code.{Reports};
 
 use crate::{Run, waiting};
 use curve2::checked::Curve2;
 use errors::Refusal;
 use inscribed::Inscribed;
+use inscribed::checked::CirclesStore;
+use runs::Units;
 
-// Offers a circle to the circles in a store of a checked section. The store has room for `slots` circles and holds `count`;
-// `units` have been taken before. An empty store accepts it without a trial.
+// Offers a circle to the circles in a store of a checked section, with the units taken before. An empty store accepts it without a trial.
 pub fn refine(
     section: &Curve2<'_>,
     tol: f64,
-    store: &mut [f64],
-    slots: usize,
-    count: usize,
+    circles: &mut CirclesStore<'_>,
     circle: Inscribed,
-    limit: u32,
-    units: u32,
-) -> Run
-    requires count_le_slots { (count ≤ slots) × (slots * width ≤ length store.old) × (units ≤ limit) }
-    ensures { listed_run result store.new ≡ reported store.old (refine_run section.now.points.now tol slots (under_limit limit) (circles_of store.old count) (circle ∷ []) units) }
+    units: Units,
+) -> Run<()>
+    ensures { Reports result circles.old circles.new (refine_run section.now.points.now tol circles.old.slots (under_limit units.limit) (in_use circles.old) (circle ∷ []) units.taken) }
 {
-    if 0 < count {
-        waiting::refine_behind(section, tol, store, slots, count, circle, limit, units)
-    } else if slots == 0 {
-        Run::refused(Refusal::StoreFull, count, units)
+    if 0 < circles.count {
+        waiting::refine_behind(section, tol, circles, circle, units)
+    } else if circles.slots == 0 {
+        Run::refused(Refusal::StoreFull, circles.count, units.taken)
     } else {
-        inscribed::checked::put_circle(store, 0, circle);
-        Run::finished(1, units)
+        circles.push(circle);
+        Run::finished((), 1, units.taken)
     }
 }

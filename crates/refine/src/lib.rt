@@ -16,14 +16,16 @@ use curve2::checked::Curve2;
 use curve2::{AlsoBad, entering};
 use errors::Refusal;
 use inscribed::Inscribed;
+use inscribed::checked::CirclesStore;
+use runs::Units;
 
 // How many circles may wait in a refinement.
 pub(crate) const MOST_WAITING: usize = 64;
 
-// How a run ends: finished, spent, or refused.
+// How a run ends: with its result, spent, or refused. Of these three endings spent is no refusal, so this is no `Result`; and as a refusal goes up with a count and units, it goes up in a `Run` and not by `?`.
 #[derive(Clone, Copy)]
-pub enum RunEnd {
-    Finished,
+pub enum RunEnd<T> {
+    Finished(T),
     // One more unit is wanted than the limit: 14.
     Spent,
     Refused(Refusal),
@@ -31,26 +33,26 @@ pub enum RunEnd {
 
 // What a run returns: its ending, the count of circles in the store, and the units taken.
 #[derive(Clone, Copy)]
-pub struct Run {
-    pub end: RunEnd,
+pub struct Run<T> {
+    pub end: RunEnd<T>,
     pub count: usize,
     pub units: u32,
 }
 
-impl Run {
-    // A run that is finished.
-    pub fn finished(count: usize, units: u32) -> Run
-        ensures { result ≡ record { end = RunEnd.Finished; count = count; units = units } }
+impl<T> Run<T> {
+    // A run that ends with its result.
+    pub fn finished(value: T, count: usize, units: u32) -> Run<T>
+        ensures { result ≡ record { end = RunEnd.Finished value; count = count; units = units } }
     {
         Run {
-            end: RunEnd::Finished,
+            end: RunEnd::Finished(value),
             count,
             units,
         }
     }
 
     // A run that is spent.
-    pub fn spent(count: usize, units: u32) -> Run
+    pub fn spent(count: usize, units: u32) -> Run<T>
         ensures { result ≡ record { end = RunEnd.Spent; count = count; units = units } }
     {
         Run {
@@ -61,7 +63,7 @@ impl Run {
     }
 
     // A run that ends in a refusal.
-    pub fn refused(r: Refusal, count: usize, units: u32) -> Run
+    pub fn refused(r: Refusal, count: usize, units: u32) -> Run<T>
         ensures { result ≡ record { end = RunEnd.Refused r; count = count; units = units } }
     {
         Run {
@@ -72,21 +74,21 @@ impl Run {
     }
 }
 
-// The number of an ending: 0 for a finished run, 14 for a spent one.
-impl From<RunEnd> for u32 {
+// The number of an ending: 0 for a result, 14 for a spent run.
+impl<T: Copy> From<RunEnd<T>> for u32 {
     ghost from_gives = { λ end n. n ≡ ending_number (listed_end end) };
 
-    fn from(end: RunEnd) -> u32 {
+    fn from(end: RunEnd<T>) -> u32 {
         match end {
-            RunEnd::Finished => 0,
+            RunEnd::Finished(_) => 0,
             RunEnd::Spent => 14,
             RunEnd::Refused(r) => u32::from(r),
         }
     }
 }
 
-// The number of what a run's call returns: 0 for a finished run.
-pub fn number(answer: Result<Run, Refusal>) -> u32
+// The number of what a run's call returns: 0 for a result. It is no `From`, since a crate can't write that for a `Result`.
+pub fn number<T: Copy>(answer: Result<Run<T>, Refusal>) -> u32
     ensures { (store : List Float) → result ≡ called_number (listed_called answer store) }
 {
     match answer {
@@ -134,10 +136,10 @@ pub fn refine_and_push(
     count: usize,
     circle: Inscribed,
     limit: u32,
-) -> Result<Run, Refusal>
+) -> Result<Run<()>, Refusal>
     ensures { listed_called result store.new ≡ refine_of (record { section = section.now; section_tol = section_tol; tol = tol; store = store.old; count = count; circle = circle }) limit }
 {
     let curve = entered(section, section_tol, tol, store, count, circle)?;
-    let slots = inscribed::store::slots_in(store.len());
-    Ok(checked::refine(&curve, tol, store, slots, count, circle, limit, 0))
+    let mut circles = CirclesStore::new(store, count);
+    Ok(checked::refine(&curve, tol, &mut circles, circle, Units::none_taken(limit)))
 }

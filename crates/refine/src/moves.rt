@@ -7,23 +7,23 @@ use crate::MOST_WAITING;
 use curve2::checked::Curve2;
 use errors::Refusal;
 use inscribed::Inscribed;
+use inscribed::checked::CirclesStore;
 
-// The trial of a waiting circle against the last of `n` accepted ones, while `w` wait: 16 where one more can't wait, 15 where no slot is free.
+// The trial of a waiting circle against the last accepted one, `last`, while `w` wait: 16 where one more can't wait, 15 where no slot is free.
 #[tactic(auto, unfolding(crate::specs::Machine::with_room))]
 pub(crate) fn tried(
     section: &Curve2<'_>,
     tol: f64,
-    slots: usize,
-    n: usize,
+    circles: &CirclesStore<'_>,
     w: usize,
     last: Inscribed,
     top: Inscribed,
 ) -> Result<Option<Inscribed>, Refusal>
-    ensures { result ≡ with_room slots n w (trial section.now.points.now tol last top) }
+    ensures { result ≡ with_room circles.now.slots circles.now.count w (trial section.now.points.now tol last top) }
 {
     match circles::checked::inscribed_refined(section, tol, last, top)? {
         Some(_) if MOST_WAITING <= w => Err(Refusal::StackFull),
-        None if slots <= n => Err(Refusal::StoreFull),
+        None if circles.slots <= circles.count => Err(Refusal::StoreFull),
         trial => Ok(trial),
     }
 }

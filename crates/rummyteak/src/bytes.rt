@@ -11,7 +11,7 @@ pub fn rummyteak_shuffle(bytes: &[u8], out: &mut [u8]) -> u32
     ensures value { result ≡ number (bytes_entry (length bytes.now) (length out.old)) }
     ensures out_after { out.new ≡ output_after (bytes_entry (length bytes.now) (length out.old)) (shuffled bytes.now) out.old }
 {
-    telling::tell_entry(shuffle::shuffle(bytes, out))
+    telling::number(shuffle::shuffle(bytes, out))
 }
 
 // The inverse.
@@ -19,7 +19,7 @@ pub fn rummyteak_unshuffle(bytes: &[u8], out: &mut [u8]) -> u32
     ensures value { result ≡ number (bytes_entry (length bytes.now) (length out.old)) }
     ensures out_after { out.new ≡ output_after (bytes_entry (length bytes.now) (length out.old)) (unshuffled bytes.now) out.old }
 {
-    telling::tell_entry(shuffle::unshuffle(bytes, out))
+    telling::number(shuffle::unshuffle(bytes, out))
 }
 
 // The turn of eight words. It refuses nothing.

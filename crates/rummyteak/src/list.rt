@@ -48,7 +48,7 @@ pub fn rummyteak_reverse_points(store: &mut [f64], count: usize) -> u32
     ensures value { result ≡ number (store_entry store.old count) }
     ensures store_after { store.new ≡ unless_refused (store_entry store.old count) (stored (map reversed_points (circles_of store.old count)) store.old) store.old }
 {
-    telling::tell_entry(lists::reverse_points(store, count))
+    telling::number(lists::reverse_points(store, count))
 }
 
 // Turns the order of the circles in use, and swaps the contacts of each.
@@ -56,7 +56,7 @@ pub fn rummyteak_reverse_order(store: &mut [f64], count: usize) -> u32
     ensures value { result ≡ number (store_entry store.old count) }
     ensures store_after { store.new ≡ unless_refused (store_entry store.old count) (stored (turned (circles_of store.old count)) store.old) store.old }
 {
-    telling::tell_entry(lists::reverse_order(store, count))
+    telling::number(lists::reverse_order(store, count))
 }
 
 // Turns the order of the circles in use.
@@ -64,10 +64,11 @@ pub fn rummyteak_reverse_order_only(store: &mut [f64], count: usize) -> u32
     ensures value { result ≡ number (store_entry store.old count) }
     ensures store_after { store.new ≡ unless_refused (store_entry store.old count) (stored (reverse (circles_of store.old count)) store.old) store.old }
 {
-    telling::tell_entry(lists::reverse_order_only(store, count))
+    telling::number(lists::reverse_order_only(store, count))
 }
 
 // Where the circles in use from a place on start in the store, and how many numbers they have.
+#[tactic(auto, unfolding(crate::specs::Told::told_as), using(inscribed::proofs::StoreLaws::part_bounds))]
 pub fn rummyteak_circles_from(
     store: &[f64],
     count: usize,
@@ -77,12 +78,10 @@ pub fn rummyteak_circles_from(
 ) -> u32
     ensures { (record { number = result; left = part_cells first.new numbers.new }) ≡ told (part_cells first.old numbers.old) (part_of store.now count place) }
 {
-    match inscribed::store::circles_entry(store, count, place) {
-        Ok(()) => {
-            *first = place * WIDTH;
-            *numbers = (count - place) * WIDTH;
-            0
-        }
-        Err(r) => u32::from(r),
+    let entry = inscribed::store::circles_entry(store, count, place);
+    if let Ok(()) = entry {
+        *first = place * WIDTH;
+        *numbers = (count - place) * WIDTH;
     }
+    telling::number(entry)
 }

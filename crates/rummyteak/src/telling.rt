@@ -3,9 +3,7 @@ ghost use Rattle.std.specs.Prelude.{◌≡◌, List, Float};
 ghost use Rattle.errors.specs.Answer.{number};
 ghost use Rattle.camber.specs.March.{listed_march};
 ghost use Rattle.inscribed.specs.Store.{numbers_of};
-ghost use Rattle.refine.specs.Report.{listed_called};
-ghost use Rattle.gap.specs.Rounds.{listed_edge_end};
-ghost use Rattle.edges.specs.Edges.{listed_fit_call};
+ghost use Rattle.refine.specs.Report.{listed_end, listed_called};
 ghost use Rattle.rummyteak.specs.Told.{told_as, told, line_numbers, crossing_cells, crossing_left, circle_on_line_left, start_cells, edges_left, start_left, station_cells, station_left, trial_cells, trial_left, end_cells, ends_left, curve_cells, piece_cells, pieces_cells, pieces_left, told_run, point_at_end, point_left};
 
 use camber::march::MarchRun;
@@ -13,13 +11,23 @@ use circles::CircleOnLine;
 use cleaning::Curve;
 use curve2::CurveStation2;
 use errors::Refusal;
-use gap::{EdgeEnd, EdgeFit};
 use inscribed::store::WIDTH;
 use inscribed::{FrontAndBack, Inscribed};
 use line2::Line2;
 use partitioning::{Piece, Pieces};
+use points::Point2;
 use queries::{Crossing, HitEdges};
-use refine::Run;
+use refine::{Run, RunEnd};
+
+// The number of an answer: 0 for a result.
+pub(crate) fn number<T: Copy>(a: Result<T, Refusal>) -> u32
+    ensures { result ≡ number a }
+{
+    match a {
+        Ok(_) => 0,
+        Err(r) => u32::from(r),
+    }
+}
 
 // A value as it is.
 #[tactic(auto, unfolding(crate::specs::Told::told_as))]
@@ -44,20 +52,17 @@ pub(crate) fn tell_station(
 ) -> u32
     ensures { (record { number = result; left = station_cells station.new index.new }) ≡ told_as station_left (station_cells station.old index.old) a }
 {
-    match a {
-        Ok(s) => {
-            *station = [
-                s.point.x,
-                s.point.y,
-                s.direction.x,
-                s.direction.y,
-                s.fraction,
-            ];
-            *index = s.index;
-            0
-        }
-        Err(r) => u32::from(r),
+    if let Ok(s) = a {
+        *station = [
+            s.point.x,
+            s.point.y,
+            s.direction.x,
+            s.direction.y,
+            s.fraction,
+        ];
+        *index = s.index;
     }
+    number(a)
 }
 
 // A crossing: origin and direction, and the two edges.
@@ -69,19 +74,16 @@ pub(crate) fn tell_crossing(
 ) -> u32
     ensures { (record { number = result; left = crossing_cells crossing.new edges.new }) ≡ told_as crossing_left (crossing_cells crossing.old edges.old) a }
 {
-    match a {
-        Ok(c) => {
-            *crossing = [
-                c.line.origin.x,
-                c.line.origin.y,
-                c.line.direction.x,
-                c.line.direction.y,
-            ];
-            *edges = [c.edges.first, c.edges.second];
-            0
-        }
-        Err(r) => u32::from(r),
+    if let Ok(c) = a {
+        *crossing = [
+            c.line.origin.x,
+            c.line.origin.y,
+            c.line.direction.x,
+            c.line.direction.y,
+        ];
+        *edges = [c.edges.first, c.edges.second];
     }
+    number(a)
 }
 
 // A line: origin and direction.
@@ -89,13 +91,10 @@ pub(crate) fn tell_crossing(
 pub(crate) fn tell_line(a: Result<Line2, Refusal>, line: &mut [f64; 4]) -> u32
     ensures { (record { number = result; left = line.new }) ≡ told_as line_numbers line.old a }
 {
-    match a {
-        Ok(l) => {
-            *line = [l.origin.x, l.origin.y, l.direction.x, l.direction.y];
-            0
-        }
-        Err(r) => u32::from(r),
+    if let Ok(l) = a {
+        *line = [l.origin.x, l.origin.y, l.direction.x, l.direction.y];
     }
+    number(a)
 }
 
 // A circle.
@@ -103,13 +102,10 @@ pub(crate) fn tell_line(a: Result<Line2, Refusal>, line: &mut [f64; 4]) -> u32
 pub(crate) fn tell_circle(a: Result<Inscribed, Refusal>, circle: &mut [f64; WIDTH]) -> u32
     ensures { (record { number = result; left = circle.new }) ≡ told_as numbers_of circle.old a }
 {
-    match a {
-        Ok(c) => {
-            *circle = c.numbers();
-            0
-        }
-        Err(r) => u32::from(r),
+    if let Ok(c) = a {
+        *circle = c.numbers();
     }
+    number(a)
 }
 
 // The circle on a line, and the edges of the line's crossing.
@@ -121,14 +117,11 @@ pub(crate) fn tell_circle_on_line(
 ) -> u32
     ensures { (record { number = result; left = crossing_cells circle.new edges.new }) ≡ told_as circle_on_line_left (crossing_cells circle.old edges.old) a }
 {
-    match a {
-        Ok(c) => {
-            *circle = c.circle.numbers();
-            *edges = [c.edges.first, c.edges.second];
-            0
-        }
-        Err(r) => u32::from(r),
+    if let Ok(c) = a {
+        *circle = c.circle.numbers();
+        *edges = [c.edges.first, c.edges.second];
     }
+    number(a)
 }
 
 // The circle of a trial, and whether there is one.
@@ -140,18 +133,13 @@ pub(crate) fn tell_trial(
 ) -> u32
     ensures { (record { number = result; left = trial_cells circle.new added.new }) ≡ told_as (trial_left circle.old) (trial_cells circle.old added.old) a }
 {
-    match a {
-        Ok(Some(c)) => {
+    if let Ok(trial) = a {
+        if let Some(c) = trial {
             *circle = c.numbers();
-            *added = true;
-            0
         }
-        Ok(None) => {
-            *added = false;
-            0
-        }
-        Err(r) => u32::from(r),
+        *added = trial.is_some();
     }
+    number(a)
 }
 
 // The first and the last circle.
@@ -163,14 +151,11 @@ pub(crate) fn tell_ends(
 ) -> u32
     ensures { (record { number = result; left = end_cells front.new back.new }) ≡ told_as ends_left (end_cells front.old back.old) a }
 {
-    match a {
-        Ok(e) => {
-            *front = e.front.numbers();
-            *back = e.back.numbers();
-            0
-        }
-        Err(r) => u32::from(r),
+    if let Ok(e) = a {
+        *front = e.front.numbers();
+        *back = e.back.numbers();
     }
+    number(a)
 }
 
 // A curve: how many points it has, and whether it is closed. The output was written by the call.
@@ -178,14 +163,11 @@ pub(crate) fn tell_ends(
 pub(crate) fn tell_curve(a: Result<Curve, Refusal>, count: &mut usize, is_closed: &mut bool) -> u32
     ensures { (record { number = result; left = curve_cells count.new is_closed.new }) ≡ told (curve_cells count.old is_closed.old) a }
 {
-    match a {
-        Ok(c) => {
-            *count = c.count;
-            *is_closed = c.is_closed;
-            0
-        }
-        Err(r) => u32::from(r),
+    if let Ok(c) = a {
+        *count = c.count;
+        *is_closed = c.is_closed;
     }
+    number(a)
 }
 
 // A piece: how many points it has, whether it is closed, and how many points its walk gave. The output was written by the call.
@@ -198,15 +180,12 @@ pub(crate) fn tell_piece(
 ) -> u32
     ensures { (record { number = result; left = piece_cells count.new is_closed.new given.new }) ≡ told (piece_cells count.old is_closed.old given.old) a }
 {
-    match a {
-        Ok(p) => {
-            *count = p.count;
-            *is_closed = p.is_closed;
-            *given = p.given;
-            0
-        }
-        Err(r) => u32::from(r),
+    if let Ok(p) = a {
+        *count = p.count;
+        *is_closed = p.is_closed;
+        *given = p.given;
     }
+    number(a)
 }
 
 // Both pieces of a split. The outputs were written by the call.
@@ -219,42 +198,24 @@ pub(crate) fn tell_pieces(
 ) -> u32
     ensures { (record { number = result; left = pieces_cells counts.new are_closed.new given.new }) ≡ told_as pieces_left (pieces_cells counts.old are_closed.old given.old) a }
 {
-    match a {
-        Ok(p) => {
-            *counts = [p.first.count, p.second.count];
-            *are_closed = [p.first.is_closed, p.second.is_closed];
-            *given = [p.first.given, p.second.given];
-            0
-        }
-        Err(r) => u32::from(r),
+    if let Ok(p) = a {
+        *counts = [p.first.count, p.second.count];
+        *are_closed = [p.first.is_closed, p.second.is_closed];
+        *given = [p.first.given, p.second.given];
     }
-}
-
-// A number alone.
-#[tactic(auto, unfolding(crate::specs::Told::told_as))]
-pub(crate) fn tell_entry(a: Result<(), Refusal>) -> u32
-    ensures { result ≡ number a }
-{
-    match a {
-        Ok(()) => 0,
-        Err(r) => u32::from(r),
-    }
+    number(a)
 }
 
 // A run: count and units, unless it was refused on entry. The store was written by the call.
 #[tactic(auto, unfolding(crate::specs::Told::told_run))]
-pub(crate) fn tell_run(a: Result<Run, Refusal>, count: &mut usize, units: &mut u32) -> u32
+pub(crate) fn tell_run(a: Result<Run<()>, Refusal>, count: &mut usize, units: &mut u32) -> u32
     ensures { (store : List Float) → (record { number = result; count = count.new; units = units.new; store = store }) ≡ told_run count.old units.old (listed_called a store) }
 {
-    let told = refine::number(a);
-    match a {
-        Ok(run) => {
-            *count = run.count;
-            *units = run.units;
-            told
-        }
-        Err(_) => told,
+    if let Ok(run) = a {
+        *count = run.count;
+        *units = run.units;
     }
+    refine::number(a)
 }
 
 // Writes the edges of a march's start, where they were found, and whether they were.
@@ -262,15 +223,10 @@ pub(crate) fn tell_run(a: Result<Run, Refusal>, count: &mut usize, units: &mut u
 fn put_edges(start: Option<HitEdges>, edges: &mut [usize; 2], found: &mut bool)
     ensures { start_cells edges.new found.new ≡ edges_left edges.old start }
 {
-    match start {
-        Some(e) => {
-            *edges = [e.first, e.second];
-            *found = true;
-        }
-        None => {
-            *found = false;
-        }
+    if let Some(e) = start {
+        *edges = [e.first, e.second];
     }
+    *found = start.is_some();
 }
 
 // The edges of a march's start, unless it was refused on entry.
@@ -278,45 +234,36 @@ fn put_edges(start: Option<HitEdges>, edges: &mut [usize; 2], found: &mut bool)
 pub(crate) fn tell_edges(a: Result<MarchRun, Refusal>, edges: &mut [usize; 2], found: &mut bool)
     ensures { (store : List Float) → start_cells edges.new found.new ≡ start_left (start_cells edges.old found.old) (listed_march a store) }
 {
-    match a {
-        Ok(m) => put_edges(m.edges, edges, found),
-        Err(_) => {}
+    if let Ok(m) = a {
+        put_edges(m.edges, edges, found);
     }
 }
 
 // Writes the edge point of a fit, where it ends with one.
 #[tactic(auto, unfolding(crate::specs::Told::point_at_end))]
-fn put_point(point: &mut [f64; 2], end: EdgeEnd)
-    ensures { point.new ≡ point_at_end point.old (listed_edge_end end) }
+fn put_point(point: &mut [f64; 2], end: RunEnd<Point2>)
+    ensures { point.new ≡ point_at_end point.old (listed_end end) }
 {
-    match end {
-        EdgeEnd::Fitted(p) => {
-            *point = [p.x, p.y];
-        }
-        EdgeEnd::Spent => {}
-        EdgeEnd::Refused(_) => {}
+    if let RunEnd::Finished(p) = end {
+        *point = [p.x, p.y];
     }
 }
 
 // A fit: the edge point where it ends with one, count and units, unless it was refused on entry.
 #[tactic(auto, unfolding(crate::specs::Told::told_run, crate::specs::Told::point_left))]
 pub(crate) fn tell_fit(
-    a: Result<EdgeFit, Refusal>,
+    a: Result<Run<Point2>, Refusal>,
     point: &mut [f64; 2],
     count: &mut usize,
     units: &mut u32,
 ) -> u32
-    ensures store_after { (store : List Float) → (record { number = result; count = count.new; units = units.new; store = store }) ≡ told_run count.old units.old (listed_fit_call a store) }
-    ensures point_after { (store : List Float) → point.new ≡ point_left point.old (listed_fit_call a store) }
+    ensures store_after { (store : List Float) → (record { number = result; count = count.new; units = units.new; store = store }) ≡ told_run count.old units.old (listed_called a store) }
+    ensures point_after { (store : List Float) → point.new ≡ point_left point.old (listed_called a store) }
 {
-    let told = edges::number(a);
-    match a {
-        Ok(fit) => {
-            put_point(point, fit.end);
-            *count = fit.count;
-            *units = fit.units;
-            told
-        }
-        Err(_) => told,
+    if let Ok(fit) = a {
+        put_point(point, fit.end);
+        *count = fit.count;
+        *units = fit.units;
     }
+    refine::number(a)
 }

@@ -1,13 +1,12 @@
 -- What follows the first march of an extraction. Assumes nothing.
-use mathlib.Core.Path.{◌≡◌, sym, ap, ◌∙◌}
+use mathlib.Core.Path.{◌≡◌, refl, sym, ap, ◌∙◌}
 use mathlib.Core.List.{List, map}
 use Prim.Native.Nat.{ℕ}
 use native.Mathlib.Omega.{arith}
 use lib.ListN.{length, length-map, length-reverse}
 use lib.Ieee.{Float}
-use Rattle.std.specs.Prelude.{Err}
-use Rattle.errors.specs.declared.Refusal.{Refusal}
-use Rattle.runs.specs.Run.{Ending, ended, spent, Final, under_limit}
+use Rattle.std.specs.Prelude.{Ok, Err}
+use Rattle.runs.specs.Run.{Ending, ended, spent, unfinished, Final, under_limit}
 use Rattle.inscribed.specs.Circles.{reversed_points}
 use Rattle.inscribed.specs.Store.{circles_of, stored, slots}
 use Rattle.inscribed.specs.declared.Inscribed.{Inscribed}
@@ -23,7 +22,7 @@ length-turned : (cs : List Inscribed) → length (turned cs) ≡ length cs
 unfolding turned
 length-turned cs = length-reverse (map reversed_points cs) ∙ length-map cs reversed_points
 
-module _ (m : Marched) (limit : ℕ) (c : Inscribed) (r : Run) (after : List Float) (is : listed_run r after ≡ reported m.store (started_run m (under_limit limit) c)) where
+module _ (m : Marched) (limit : ℕ) (c : Inscribed) (r : Run (Unit {0})) (after : List Float) (is : listed_run r after ≡ reported m.store (started_run m (under_limit limit) c)) where
   abbrev first : Final State End
   first = started_run m (under_limit limit) c
 
@@ -31,13 +30,15 @@ module _ (m : Marched) (limit : ℕ) (c : Inscribed) (r : Run) (after : List Flo
   unfolding reported
   ending_is = ap (λ (x : RunReport). x.ending) is
 
-  pub first_refused : (n : Refusal) → listed_end r.end ≡ ended (Err n) → listed_run r after ≡ first_half m (under_limit limit) c
+  pub first_over : (listed_end r.end ≡ ended finished → ⊥) → listed_run r after ≡ first_half m (under_limit limit) c
   unfolding after_first
-  first_refused n e = is ∙ ap (λ (x : Ending End). after_first m (under_limit limit) first x) (sym e ∙ ending_is)
-
-  pub first_spent : listed_end r.end ≡ spent → listed_run r after ≡ first_half m (under_limit limit) c
-  unfolding after_first
-  first_spent e = is ∙ ap (λ (x : Ending End). after_first m (under_limit limit) first x) (sym e ∙ ending_is)
+  first_over f = is ∙ over first.ending (λ e. f (ending_is ∙ e))
+    where
+      over : (x : Ending End) → (x ≡ ended finished → ⊥) → reported m.store first ≡ after_first m (under_limit limit) first x
+      over (ended (Ok done)) g = absurd (g refl)
+      over (ended (Err n)) g = refl
+      over spent g = refl
+      over unfinished g = refl
 
   module _ (e : listed_end r.end ≡ ended finished) where
     abbrev cs : List Inscribed

@@ -1,102 +1,36 @@
-// Single steps, which the C interface doesn't have. Each returns the number that is told.
-use crate::asked::{NOTHING, SECOND, circle_from};
-use crate::cells::{number_at, put};
+// Single steps, which the C interface doesn't have.
+use crate::asked::{NOTHING, Question, SECOND, Told};
+use crate::numbers::{numbers_from, put};
 use errors::Refusal;
 use inscribed::Inscribed;
+use inscribed::checked::circle_at;
 use inscribed::store::WIDTH;
+use line2::Line2;
 use line2::surface2::SurfacePoint2;
-use line2::{Line2, LineParams};
 use lists::ends;
 use lists::ends::Pair;
-use points::segment2::EdgePoint;
 use points::{AngleDir, Point2, Vector2, segment2};
 use root::isqrt;
 
 // ---- arguments
 
-fn line_from(args: &[f64], at: u32) -> Line2 {
-    let i = at as usize;
-    let x = number_at(args, i);
-    let y = number_at(args, i + 1);
-    let dx = number_at(args, i + 2);
-    let dy = number_at(args, i + 3);
-    Line2 {
-        origin: Point2 { x, y },
-        direction: Vector2 { x: dx, y: dy },
-    }
-}
-
-fn ray_from(args: &[f64], at: u32) -> SurfacePoint2 {
-    let line = line_from(args, at);
-    let point = line.origin;
-    let normal = line.direction;
-    SurfacePoint2 { point, normal }
-}
-
-fn point_from(args: &[f64], at: u32) -> Point2 {
-    let line = line_from(args, at);
-    line.origin
-}
-
-fn vector_from(args: &[f64], at: u32) -> Vector2 {
-    let p = point_from(args, at);
-    let x = p.x;
-    let y = p.y;
-    Vector2 { x, y }
-}
-
-fn circle_of(numbers: &[f64; WIDTH]) -> Inscribed {
-    inscribed::checked::circle_at(numbers, 0)
-}
-
-// The record of the circle from place `at` on.
-pub(crate) fn record_from(numbers: &[f64], at: u32) -> Inscribed {
-    let circle = circle_from(numbers, at);
-    circle_of(&circle)
-}
-
-fn turned_by(how: u64) -> AngleDir {
-    if how == 0 {
-        return AngleDir::Cw;
-    }
-    AngleDir::Ccw
+// The circle of the numbers from a place on.
+pub(crate) fn circle_from(numbers: &[f64], at: usize) -> Inscribed {
+    let circle: [f64; WIDTH] = numbers_from(numbers, at);
+    circle_at(&circle, 0)
 }
 
 // ---- answers
 
-fn put_vector(v: Vector2, out: &mut [f64]) -> u32 {
-    put(out, 0, v.x);
-    put(out, 1, v.y);
-    0
+fn ray_numbers(ray: SurfacePoint2) -> [f64; 4] {
+    [ray.point.x, ray.point.y, ray.normal.x, ray.normal.y]
 }
 
-fn vector_number(answer: Result<Vector2, Refusal>, out: &mut [f64]) -> u32 {
+// Puts out the numbers of an answer, where there are any, and returns the number that is told.
+fn tell<const N: usize>(answer: Result<Option<[f64; N]>, Refusal>, out: &mut [f64]) -> u32 {
     match answer {
-        Ok(v) => put_vector(v, out),
-        Err(r) => u32::from(r),
-    }
-}
-
-fn ray_number(answer: Result<SurfacePoint2, Refusal>, out: &mut [f64]) -> u32 {
-    match answer {
-        Ok(ray) => {
-            let p = ray.point;
-            let n = ray.normal;
-            put(out, 0, p.x);
-            put(out, 1, p.y);
-            put(out, 2, n.x);
-            put(out, 3, n.y);
-            0
-        }
-        Err(r) => u32::from(r),
-    }
-}
-
-fn params_number(answer: Result<Option<LineParams>, Refusal>, out: &mut [f64]) -> u32 {
-    match answer {
-        Ok(Some(p)) => {
-            put(out, 0, p.t);
-            put(out, 1, p.s);
+        Ok(Some(numbers)) => {
+            put(out, &numbers);
             0
         }
         Ok(None) => NOTHING,
@@ -104,59 +38,81 @@ fn params_number(answer: Result<Option<LineParams>, Refusal>, out: &mut [f64]) -
     }
 }
 
-fn edge_number(answer: Result<EdgePoint, Refusal>, out: &mut [f64]) -> u32 {
-    match answer {
-        Ok(e) => {
-            put(out, 0, e.fraction);
-            0
-        }
-        Err(r) => u32::from(r),
-    }
-}
-
 // ---- steps
 
-// Whole roots, of a number in 64 bits, or in 32 where it fits.
-fn whole_root(kind: u64, n: usize) -> u64 {
-    if kind == 42 {
-        return isqrt::isqrt_u64(n as u64);
-    }
-    if 4_294_967_295 < n {
-        return 0;
-    }
-    isqrt::isqrt_u32(n as u32) as u64
+// The largest whole number whose square is at most a number that may have 32 bits; 0 for a larger one.
+fn short_root(n: usize) -> u64 {
+    u32::try_from(n).map_or(0, |n| u64::from(isqrt::isqrt_u32(n)))
 }
 
-pub(crate) fn ask_step(
-    kind: u64,
-    args: &[f64],
-    place: usize,
-    how: u64,
-    out: &mut [f64],
-    root: &mut usize,
-) -> u32 {
-    match kind {
-        36 => put_vector(vector_from(args, 2).rot90(turned_by(how)), out),
-        37 => vector_number(vector_from(args, 2).normalize(), out),
-        38 => ray_number(ray_from(args, 2).halfway(ray_from(args, 6)), out),
-        39 => params_number(
-            line2::intersection_param(line_from(args, 2), line_from(args, 6)),
-            out,
-        ),
-        40 => {
-            let p = point_from(args, 2);
-            let a = point_from(args, 4);
-            let b = point_from(args, 6);
-            edge_number(segment2::closest_on_edge(p, a, b), out)
+// Points, vectors, rays and lines stand in the arguments from the third on, one behind the other.
+pub(crate) fn ask_step(q: &Question<'_>, out: &mut [f64], told: &mut Told) -> bool {
+    let [_, _, ax, ay, av, aw, bx, by, bv, bw, ..] = *q.args;
+    let a = Point2 { x: ax, y: ay };
+    let b = Point2 { x: av, y: aw };
+    let c = Point2 { x: bx, y: by };
+    let number = match q.name {
+        b"rot90" => {
+            let dir = if q.how == 0 {
+                AngleDir::Cw
+            } else {
+                AngleDir::Ccw
+            };
+            let v = Vector2 { x: ax, y: ay }.rot90(dir);
+            tell(Ok(Some([v.x, v.y])), out)
         }
-        42..=43 => {
-            *root = whole_root(kind, place) as usize;
+        b"normalize" => {
+            let unit = Vector2 { x: ax, y: ay }.normalize();
+            tell(unit.map(|v| Some([v.x, v.y])), out)
+        }
+        b"halfway" => {
+            let from = SurfacePoint2 {
+                point: a,
+                normal: Vector2 { x: av, y: aw },
+            };
+            let to = SurfacePoint2 {
+                point: c,
+                normal: Vector2 { x: bv, y: bw },
+            };
+            tell(from.halfway(to).map(|ray| Some(ray_numbers(ray))), out)
+        }
+        b"intersection_param" => {
+            let line = Line2 {
+                origin: a,
+                direction: Vector2 { x: av, y: aw },
+            };
+            let edge = Line2 {
+                origin: c,
+                direction: Vector2 { x: bv, y: bw },
+            };
+            let met = line2::intersection_param(line, edge);
+            tell(met.map(|params| params.map(|p| [p.t, p.s])), out)
+        }
+        b"closest_on_edge" => {
+            let nearest = segment2::closest_on_edge(a, b, c);
+            tell(nearest.map(|e| Some([e.fraction])), out)
+        }
+        b"end_camber_ray" => {
+            let args = q.args;
+            let end = Pair {
+                before: circle_from(args, 2),
+                last: circle_from(args, SECOND),
+            };
+            tell(
+                ends::end_camber_ray(end).map(|ray| Some(ray_numbers(ray))),
+                out,
+            )
+        }
+        b"isqrt_u64" => {
+            told[1] = isqrt::isqrt_u64(q.place as u64);
             0
         }
-        _ => {
-            let before = record_from(args, 2);
-            let last = record_from(args, SECOND);
-            ray_number(ends::end_camber_ray(Pair { before, last }), out)
+        b"isqrt_u32" => {
+            told[1] = short_root(q.place);
+            0
         }
-    }
+        _ => return false,
+    };
+    told[0] = u64::from(number);
+    true
 }

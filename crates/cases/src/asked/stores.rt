@@ -1,67 +1,84 @@
 // What is asked of the circles in a store, and of circle records.
-use crate::asked::steps::record_from;
-use crate::asked::{circle_from, put_circle};
-use crate::buffers::copy_from;
+use crate::asked::steps::circle_from;
+use crate::asked::{Question, Told};
+use crate::numbers::{numbers_from, put};
 use inscribed::store::WIDTH;
 use lists::records;
 use rummyteak::list;
 
-const SECOND: u32 = WIDTH as u32;
+// The first and the last circle.
+fn ask_ends(store: &[f64], count: usize, out: &mut [f64]) -> u32 {
+    let mut front = numbers_from(out, 0);
+    let mut back = numbers_from(out, WIDTH);
+    let number = list::rummyteak_front_and_back(store, count, &mut front, &mut back);
+    put(out, &front);
+    if let Some((_, rest)) = out.split_at_mut_checked(WIDTH) {
+        put(rest, &back);
+    }
+    number
+}
 
-const THIRD: u32 = 2 * SECOND;
+// The line that clips the end of the circles.
+fn ask_clip(store: &[f64], count: usize, out: &mut [f64]) -> u32 {
+    let mut line = numbers_from(out, 0);
+    let number = list::rummyteak_end_clip_line(store, count, &mut line);
+    put(out, &line);
+    number
+}
 
-const FOURTH: u32 = 3 * SECOND;
-
-fn ask_ends(store: &[f64], stated: usize, out: &mut [f64]) -> u32 {
-    let mut front = circle_from(out, 0);
-    let mut back = circle_from(out, SECOND);
-    let number = list::rummyteak_front_and_back(store, stated, &mut front, &mut back);
-    put_circle(out, 0, &front);
-    put_circle(out, SECOND, &back);
+// The mean distance of neighbouring centres.
+fn ask_spacing(store: &[f64], count: usize, out: &mut [f64]) -> u32 {
+    let [mut spacing]: [f64; 1] = numbers_from(out, 0);
+    let number = list::rummyteak_average_spacing(store, count, &mut spacing);
+    put(out, &[spacing]);
     number
 }
 
 // The circles from a place on: how many numbers they have, and the numbers.
-fn ask_part(store: &[f64], stated: usize, place: usize, out: &mut [f64], count: &mut usize) -> u32 {
-    let mut first: usize = 0;
-    let mut numbers: usize = 0;
-    let number = list::rummyteak_circles_from(store, stated, place, &mut first, &mut numbers);
-    *count = numbers;
-    let n = numbers.min(out.len());
-    copy_from(&mut out[0..n], store, (first % 0x1_0000_0000) as u32);
+fn ask_part(q: &Question<'_>, store: &[f64], out: &mut [f64], len: &mut usize) -> u32 {
+    let mut first = 0;
+    *len = 0;
+    let number = list::rummyteak_circles_from(store, q.place, q.how as usize, &mut first, len);
+    for (x, y) in out.iter_mut().zip(store.iter().skip(first)).take(*len) {
+        *x = *y;
+    }
     number
 }
 
 // The thickest of a store's first four circles, as records.
 fn ask_record(store: &[f64], place: &mut usize) -> u32 {
-    let c0 = record_from(store, 0);
-    let c1 = record_from(store, SECOND);
-    let c2 = record_from(store, THIRD);
-    let c3 = record_from(store, FOURTH);
-    match records::index_of_tmax_of(&[c0, c1, c2, c3]) {
-        Ok(i) => {
-            *place = i;
-            0
-        }
-        Err(r) => u32::from(r),
-    }
+    let circles = [
+        circle_from(store, 0),
+        circle_from(store, WIDTH),
+        circle_from(store, 2 * WIDTH),
+        circle_from(store, 3 * WIDTH),
+    ];
+    records::index_of_tmax_of(&circles).map_or_else(u32::from, |i| {
+        *place = i;
+        0
+    })
 }
 
 pub(crate) fn ask_list(
-    kind: u64,
-    stated: usize,
-    how: u64,
+    q: &Question<'_>,
     store: &mut [f64],
     out: &mut [f64],
-    count: &mut usize,
-) -> u32 {
-    match kind {
-        30 => list::rummyteak_index_of_tmax(store, stated, count),
-        31 => ask_ends(store, stated, out),
-        32 => list::rummyteak_reverse_points(store, stated),
-        33 => list::rummyteak_reverse_order(store, stated),
-        34 => list::rummyteak_reverse_order_only(store, stated),
-        35 => ask_part(store, stated, how as usize, out, count),
-        _ => ask_record(store, count),
-    }
+    told: &mut Told,
+) -> bool {
+    let mut place = told[1] as usize;
+    let number = match q.name {
+        b"index_of_tmax" => list::rummyteak_index_of_tmax(store, q.place, &mut place),
+        b"front_and_back" => ask_ends(store, q.place, out),
+        b"end_clip_line" => ask_clip(store, q.place, out),
+        b"average_spacing" => ask_spacing(store, q.place, out),
+        b"reverse_points" => list::rummyteak_reverse_points(store, q.place),
+        b"reverse_order" => list::rummyteak_reverse_order(store, q.place),
+        b"reverse_order_only" => list::rummyteak_reverse_order_only(store, q.place),
+        b"circles_from" => ask_part(q, store, out, &mut place),
+        b"index_of_tmax_of" => ask_record(store, &mut place),
+        _ => return false,
+    };
+    told[0] = u64::from(number);
+    told[1] = place as u64;
+    true
 }

@@ -1,47 +1,70 @@
 // A run under every limit, beside the same run without one. Before it, output and store are kept.
-use crate::cells::word_at;
-use crate::script::plain;
-use crate::{buffers, script};
+use crate::asked::Told;
+use crate::case::{Case, Left, NO_LIMIT, limit_of};
+use crate::numbers::are_same;
+use crate::table::count;
+use inscribed::store::WIDTH;
+
+// What a run left and told, and what it began with.
+#[derive(Clone, Copy)]
+struct Ran {
+    left: Left,
+    told: Told,
+}
 
 // Runs what word k of the line names, from output and store as they were kept.
-fn again(line: &[u8], k: u32, limit: u32, n: &mut [f64], words: &mut [u64]) {
-    buffers::copy(n, script::KEPT, script::OUT, script::BOTH);
-    crate::replay::ask(line, k, limit, n, words);
-}
-
-fn keeps_at(line: &[u8], is_fit: bool, limit: u32, n: &mut [f64], words: &mut [u64]) -> bool {
-    again(line, 2, limit, n, words);
-    plain::keeps(is_fit, limit, n, words)
-}
-
-fn all_keep(line: &[u8], is_fit: bool, end: u32, n: &mut [f64], words: &mut [u64]) -> bool {
-    for limit in script::limit_of(line, 1)..end {
-        if !keeps_at(line, is_fit, limit, n, words) {
-            return false;
-        }
+fn run(line: &[u8], k: usize, limit: u32, case: &mut Case) -> Ran {
+    case.left = case.kept;
+    case.ask(line, k, limit);
+    Ran {
+        left: case.left,
+        told: case.told,
     }
-    true
+}
+
+impl Ran {
+    // Whether another run ended with the same count and units, and left the same.
+    fn is_same(&self, other: &Ran) -> bool {
+        self.told[..3] == other.told[..3] && self.left.is_same(&other.left)
+    }
+
+    // Whether another run began on the same edges.
+    fn has_same_edges(&self, other: &Ran) -> bool {
+        self.told[3..] == other.told[3..]
+    }
+
+    // Whether the run was spent at a limit.
+    fn is_spent(&self, limit: u32) -> bool {
+        self.told[0] == 14 && self.told[2] == u64::from(limit)
+    }
+
+    // Whether the store holds the first circles of the plain run's, as many as were told, and behind them what it held before.
+    fn is_start(&self, plain: &Ran, kept: &Left) -> bool {
+        let used = (self.told[1] as usize).min(self.left.store.len() / WIDTH) * WIDTH;
+        are_same(&self.left.store[..used], &plain.left.store[..used])
+            && are_same(&self.left.store[used..], &kept.store[used..])
+    }
+
+    // Whether a run under a limit keeps to the plain one: the same from its units on, spent below them, with the same edges. There the store has the first circles of the
+    // plain run's, unless the run is a fit.
+    fn keeps(&self, plain: &Ran, is_fit: bool, limit: u32, kept: &Left) -> bool {
+        self.has_same_edges(plain)
+            && if plain.told[2] <= u64::from(limit) {
+                self.is_same(plain)
+            } else {
+                self.is_spent(limit) && (is_fit || self.is_start(plain, kept))
+            }
+    }
 }
 
 // Whether the run that word 2 of the line names keeps to the plain one at each limit from word 1 up to two above its units.
-pub(crate) fn limits(line: &[u8], is_fit: bool, n: &mut [f64], words: &mut [u64]) -> bool {
-    script::keep(n);
-    again(line, 2, script::NO_LIMIT, n, words);
-    plain::keep_plain(n, words);
-    let end = (word_at(words, script::TOLD + 2) % 1000) as u32 + 3;
-    all_keep(line, is_fit, end, n, words)
-}
-
-fn agree_at(line: &[u8], limit: u32, n: &mut [f64], words: &mut [u64]) -> bool {
-    again(line, 2, limit, n, words);
-    plain::keep_plain(n, words);
-    again(line, 3, limit, n, words);
-    plain::leaves_same(n, words)
-}
-
-fn all_agree(line: &[u8], end: u32, n: &mut [f64], words: &mut [u64]) -> bool {
-    for limit in 0..end {
-        if !agree_at(line, limit, n, words) {
+pub(crate) fn keep(line: &[u8], is_fit: bool, case: &mut Case) -> bool {
+    case.kept = case.left;
+    let plain = run(line, 2, NO_LIMIT, case);
+    let end = (plain.told[2] % 1000) as u32 + 3;
+    for limit in limit_of(line, 1)..end {
+        let ran = run(line, 2, limit, case);
+        if !ran.keeps(&plain, is_fit, limit, &case.kept) {
             return false;
         }
     }
@@ -49,7 +72,13 @@ fn all_agree(line: &[u8], end: u32, n: &mut [f64], words: &mut [u64]) -> bool {
 }
 
 // Whether the runs that words 2 and 3 of the line name leave the same at each limit below word 1.
-pub(crate) fn agree(line: &[u8], n: &mut [f64], words: &mut [u64]) -> bool {
-    script::keep(n);
-    all_agree(line, script::limit_of(line, 1), n, words)
+pub(crate) fn agree(line: &[u8], case: &mut Case) -> bool {
+    case.kept = case.left;
+    for limit in 0..limit_of(line, 1) {
+        let a = run(line, 2, limit, case);
+        if !run(line, 3, limit, case).is_same(&a) {
+            return false;
+        }
+    }
+    true
 }

@@ -1,64 +1,27 @@
 // Numbers that aren't finite, put in every place of what is handed in.
-use crate::cells::{number_at, put, word_at};
-use crate::{buffers, script};
+use crate::case::Case;
+use crate::table::count;
 
-// NaN and both infinities.
-fn bad(k: u32) -> f64 {
-    match k {
-        0 => 0.0 / 0.0,
-        1 => 1.0 / 0.0,
-        _ => -1.0 / 0.0,
-    }
-}
+const NOT_FINITE: [f64; 3] = [f64::NAN, f64::INFINITY, f64::NEG_INFINITY];
 
-// Whether a refusal was told by the number in word 3 of the line, with the count in word 7 and no unit.
-fn told_refusal(line: &[u8], words: &[u64]) -> bool {
-    let right0 = word_at(words, 0) == buffers::count(line, 3) as u64;
-    let right1 = word_at(words, 1) == buffers::count(line, 7) as u64;
-    let right2 = word_at(words, 2) == 0;
-    if right0 {
-        if right1 {
-            return right2;
-        }
-    }
-    false
-}
-
-// Whether the function that word 4 of the line names so refuses bad number k in place i, and leaves store and output as they were.
-fn is_refused(line: &[u8], i: usize, k: u32, n: &mut [f64], words: &mut [u64]) -> bool {
-    let old = number_at(n, i);
-    put(n, i, bad(k));
-    crate::replay::ask(line, 4, 9, n, words);
-    put(n, i, old);
-    if !told_refusal(line, words) {
-        return false;
-    }
-    script::is_kept(n)
-}
-
-// Whether each of the three is refused in place i.
-fn each_is_refused(line: &[u8], i: usize, n: &mut [f64], words: &mut [u64]) -> bool {
-    if !is_refused(line, i, 0, n, words) {
-        return false;
-    }
-    if !is_refused(line, i, 1, n, words) {
-        return false;
-    }
-    is_refused(line, i, 2, n, words)
-}
-
-fn all_refused(line: &[u8], n: &mut [f64], words: &mut [u64]) -> bool {
-    let end = buffers::count(line, 2);
-    for i in buffers::count(line, 1)..end {
-        if !each_is_refused(line, i, n, words) {
-            return false;
-        }
-    }
-    true
+// Whether the function that word 4 of the line names refuses a number in a place by the number in word 3, with the count in word 7 and no unit, and leaves store and output as they were.
+fn is_refused(line: &[u8], place: usize, bad: f64, case: &mut Case) -> bool {
+    let old = case.replace(place, bad);
+    case.ask(line, 4, 9);
+    case.replace(place, old);
+    case.told[..3] == [count(line, 3) as u64, count(line, 7) as u64, 0]
+        && case.left.is_same(&case.kept)
 }
 
 // Whether each of the three is refused in each place from word 1 of the line to below word 2.
-pub(crate) fn bad_places(line: &[u8], n: &mut [f64], words: &mut [u64]) -> bool {
-    script::keep(n);
-    all_refused(line, n, words)
+pub(crate) fn are_bad(line: &[u8], case: &mut Case) -> bool {
+    case.kept = case.left;
+    for place in count(line, 1)..count(line, 2) {
+        for bad in NOT_FINITE {
+            if !is_refused(line, place, bad, case) {
+                return false;
+            }
+        }
+    }
+    true
 }

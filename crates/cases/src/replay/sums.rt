@@ -1,59 +1,30 @@
 // Answers that are known by a checksum, and roots by their bits.
-use crate::cells::{put, word_at};
-use crate::tables::{number, whole, word};
-use crate::{asked, bits, buffers, samples, script};
+use crate::asked::{Question, Told};
+use crate::case::NO_LIMIT;
+use crate::table::{count, number, whole, word};
+use crate::{asked, bits, samples};
 use inscribed::store::WIDTH;
 
 // The questions of a sample: the first, and where there is one the second, of the circles that the first left.
-fn ask_both(
-    line: &[u8],
-    section: &[f64],
-    args: &[f64],
-    store: &mut [f64],
-    out: &mut [f64],
-    told: &mut [u64],
-) {
-    let first = crate::replay::kind_of(word(line, 3));
-    let second = word(line, 4);
-    let how = whole(word(line, 5));
-    asked::ask(
-        first,
-        section,
-        args,
-        0,
-        0,
-        script::NO_LIMIT,
-        store,
-        out,
-        told,
-    );
-    if word_at(told, 0) != 0 {
-        return;
+fn ask_both(line: &[u8], first: Question<'_>, store: &mut [f64], out: &mut [f64], told: &mut Told) {
+    asked::ask(&first, store, out, told);
+    let name = word(line, 4);
+    if told[0] == 0 && !name.is_empty() {
+        let second = Question {
+            name,
+            place: told[1] as usize,
+            how: whole(word(line, 5)),
+            ..first
+        };
+        asked::ask(&second, store, out, told);
     }
-    if second.len() == 0 {
-        return;
-    }
-    let count = word_at(told, 1) as usize;
-    let kind = crate::replay::kind_of(second);
-    asked::ask(
-        kind,
-        section,
-        args,
-        count,
-        how,
-        script::NO_LIMIT,
-        store,
-        out,
-        told,
-    );
 }
 
 // Clears the lengths along of a circle that was put out: the published functions have none.
-fn clear_lengths(line: &[u8], out: &mut [f64]) {
-    match crate::replay::kind_of(word(line, 3)) {
-        23..=25 => {
-            put(out, samples::PUBLISHED, 0.0);
-            put(out, samples::PUBLISHED + 1, 0.0);
+fn clear_lengths(name: &[u8], out: &mut [f64; 130]) {
+    match name {
+        b"inscribed_from_crossing" | b"try_inscribed" | b"inscribed_refined" => {
+            out[samples::PUBLISHED..WIDTH].fill(0.0);
         }
         _ => {}
     }
@@ -63,21 +34,20 @@ fn clear_lengths(line: &[u8], out: &mut [f64]) {
 pub(crate) fn sample(line: &[u8]) -> bool {
     let seed = whole(word(line, 1));
     let profile = samples::inputs::section(seed);
-    let args = samples::inputs::args(seed);
+    let from = (seed % 2 * 2) as usize;
+    let first = Question {
+        name: word(line, 3),
+        section: &profile[from..42 - from],
+        args: &samples::inputs::args(seed),
+        place: 0,
+        how: 0,
+        limit: NO_LIMIT,
+    };
     let mut store = [0.0; 64 * WIDTH];
     let mut out = [0.0; 130];
-    let mut told = [0; 3];
-    let from = (seed % 2 * 2) as usize;
-    let to = 42 - from;
-    ask_both(
-        line,
-        &profile[from..to],
-        &args,
-        &mut store,
-        &mut out,
-        &mut told,
-    );
-    clear_lengths(line, &mut out);
+    let mut told = [0; 6];
+    ask_both(line, first, &mut store, &mut out, &mut told);
+    clear_lengths(first.name, &mut out);
     samples::checksum_of(&told, &out, &store) == whole(word(line, 2))
 }
 
@@ -88,5 +58,5 @@ pub(crate) fn root(line: &[u8]) -> bool {
 
 // Whether the roots of as many generated patterns as word 1 says have the checksum in word 2.
 pub(crate) fn roots(line: &[u8]) -> bool {
-    samples::roots_checksum(buffers::count(line, 1)) == whole(word(line, 2))
+    samples::roots_checksum(count(line, 1)) == whole(word(line, 2))
 }

@@ -1,5 +1,5 @@
 // The inputs of the sample, each from one seed. oracle/sample.rs makes the same ones.
-use crate::script::ARGUMENTS;
+use crate::case::ARGUMENTS;
 
 // The next word of a xorshift generator.
 pub(crate) fn next(x: u64) -> u64 {

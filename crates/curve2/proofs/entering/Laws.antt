@@ -1,13 +1,12 @@
 -- Laws of the entry tests 2 and 6, number by number and edge by edge. Assumes nothing.
-use mathlib.Core.Path.{◌≡◌, refl, sym, ◌∙◌}
+use mathlib.Core.Path.{◌≡◌, refl, ◌∙◌}
 use mathlib.Core.Bool.{Bool, true, false, not, ◌||◌}
 use mathlib.Core.List.{List, ◌∷◌, []}
-use Prim.Native.Nat.{ℕ, ◌+◌, ◌≤◌, ◌<◌}
-use native.Mathlib.Numerals.{add-one}
+use Prim.Native.Nat.{ℕ, ◌+◌, ◌<◌}
 use native.Mathlib.Omega.{arith}
-use lib.ListN.{length, get_or, drop, drop_of_length-le}
-use lib.Seq.{drop-cons}
-use lib.Ieee.{Float, nan, lt, le}
+use Rattle.std.specs.List.{list_any}
+use lib.ListN.{length, drop}
+use lib.Ieee.{Float, lt, le}
 use Rattle.points.specs.Numbers.{◌+f◌}
 use Rattle.points.specs.declared.Point2.{Point2}
 use Rattle.curve2.specs.Section.{points_of, point_at, plain_dist, lengths_from}
@@ -16,18 +15,10 @@ use Rattle.curve2.proofs.Laws.{points_step, points-end}
 
 -- ---- test 2, number by number
 
-module _ (ns : List Float) (i : ℕ) (inv : bad_numbers (drop i ns) ≡ bad_numbers ns) where
-  pub bad-found : i < length ns → in_range (get_or ns i nan) ≡ false → true ≡ bad_numbers ns
-  unfolding bad_numbers
-  bad-found h p = sym (rw (drop-cons ns i nan h, p)) ∙ inv
-
-  pub bad_passed : i < length ns → in_range (get_or ns i nan) ≡ true → bad_numbers (drop (i + 1) ns) ≡ bad_numbers ns
-  unfolding bad_numbers
-  bad_passed h p = rw (add-one i) (sym (rw (drop-cons ns i nan h, p)) ∙ inv)
-
-  pub bad_none : length ns ≤ i → false ≡ bad_numbers ns
-  unfolding bad_numbers
-  bad_none h = sym (rw (drop_of_length-le ns h)) ∙ inv
+pub bad_numbers_is : (ns : List Float) → list_any (λ x. not (in_range x)) ns ≡ bad_numbers ns
+unfolding bad_numbers
+bad_numbers_is [] = refl
+bad_numbers_is (x ∷ ns) = rw (bad_numbers_is ns)
 
 -- ---- test 6, edge by edge
 

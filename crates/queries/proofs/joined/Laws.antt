@@ -1,18 +1,19 @@
 -- The joined crossing: hits put in their places, and those near the last kept one dropped. Assumes nothing.
-use mathlib.Core.Path.{◌≡◌, refl, sym, ap, ◌∙◌}
+use mathlib.Core.Path.{◌≡◌, refl, sym, ap}
 use mathlib.Core.Bool.{Bool, true, false, cond}
 use mathlib.Core.List.{List, [], ◌∷◌}
-use Rattle.std.specs.Prelude.{Option, Some, None, Ok, Err}
-use Prim.Native.Nat.{ℕ, zero, suc, ◌+◌, ◌-◌, ◌≤◌, ◌<◌}
-use native.Mathlib.Nat.{add-zero, le_refl}
+use Rattle.std.specs.Prelude.{Option, Some, None, Ok, Err, unwrap_or}
+use Prim.Native.Nat.{ℕ, zero, suc, ◌+◌, ◌≤◌, ◌<◌}
+use native.Mathlib.Nat.{le_refl}
 use native.Mathlib.Numerals.{add-one}
 use native.Mathlib.Omega.{arith}
-use borrow.Author.Tests.{eqb-true, eqb-false, eq-eqb, ne_eqb}
-use lib.Dec.{eqb}
+use borrow.Author.Tests.{ltb-false}
+use lib.Dec.{ltb}
 use lib.ListN.{length, get_or, drop, drop_of_length-le}
 use lib.Seq.{drop-cons}
 use lib.Ieee.{Float, lt}
-use Rattle.std.specs.List.{insert}
+use Rattle.std.specs.List.{insert, position_or_len}
+use Rattle.std.proofs.lemmas.List.Recursion.{is_position_or_len}
 use Rattle.errors.specs.Answer.{Answer, ◌>>=◌}
 use Rattle.line2.specs.declared.Line2.{Line2}
 use Rattle.queries.specs.Hits.{section_edges, hits_from, inserted, sorted_into, sorted, dropped_after, dropped}
@@ -39,19 +40,19 @@ place_bound t (g ∷ gs) = go (lt t g.t) (place_bound t gs)
 pub place_within : (t : Float) (gs : List Hit) (k : ℕ) → k ≡ place_of t gs → k ≤ length gs
 place_within t gs k e = rw e (place_bound t gs)
 
--- the hits from place k on, none before it having a greater fraction
-module _ (hs : List Hit) (t : Float) (k : ℕ) (inv : place_of t hs ≡ k + place_of t (drop k hs)) where
-  pub place_found : (d : Hit) → k < length hs → lt t (get_or hs k d).t ≡ true → k ≡ place_of t hs
-  unfolding place_of
-  place_found d b p = sym (inv ∙ rw (drop-cons hs k d b, p) (add-zero k))
+place_is : (t : Float) (gs : List Hit) → place_of t gs ≡ position_or_len (λ g. lt t g.t) gs
+unfolding place_of
+place_is t = is_position_or_len (place_of t) (λ (g : Hit). lt t g.t) refl (λ (g : Hit) (gs : List Hit). grind arith)
 
-  pub place_passed : (d : Hit) → k < length hs → lt t (get_or hs k d).t ≡ false → place_of t hs ≡ k + 1 + place_of t (drop (k + 1) hs)
-  unfolding place_of
-  place_passed d b p = inv ∙ rw (drop-cons hs k d b, p, add-one k) (omega arith)
+pub place_told : (t : Float) (gs : List Hit) → unwrap_or (cond (ltb (position_or_len (λ g. lt t g.t) gs) (length gs)) (Some (position_or_len (λ g. lt t g.t) gs)) None) (length gs) ≡ place_of t gs
+place_told t gs = go (ltb n (length gs)) refl
+  where
+    n : ℕ
+    n = position_or_len (λ g. lt t g.t) gs
 
-  pub place_end : k ≡ length hs → length hs ≡ place_of t hs
-  unfolding place_of
-  place_end h = sym (inv ∙ rw (drop_of_length-le hs {i = k} (omega arith)) (omega arith))
+    go : (b : Bool) → ltb n (length gs) ≡ b → unwrap_or (cond b (Some n) None) (length gs) ≡ place_of t gs
+    go true e = sym (place_is t gs)
+    go false e = omega (arith, ltb-false n (length gs) e, place_bound t gs, place_is t gs)
 
 pub inserted_at : (h : Hit) (gs : List Hit) → insert gs (place_of h.t gs) h ≡ inserted h gs
 unfolding place_of inserted
@@ -152,13 +153,3 @@ joined-kept near ns l = go (hits_from l 0 (section_edges ns))
     go : (a : Answer (List Hit)) → ((a >>= λ hs. Ok (sorted hs)) >>= λ hs. crossed l (span_kept (seen_of (dropped near hs)))) ≡ (a >>= λ hs. crossed l (span_of (dropped near (sorted hs))))
     go (Err n) = refl
     go (Ok hs) = rw (span_kept_lem (dropped near (sorted hs)))
-
--- ---- neighbouring edges
-
--- j's predecessor is i where j is i's successor
-pub follows-before : (i j : ℕ) → (j ≡ 0 → ⊥) → eqb i (j - 1) ≡ eqb (suc i) j
-follows-before i j h = go (eqb (suc i) j) refl
-  where
-    go : (b : Bool) → eqb (suc i) j ≡ b → eqb i (j - 1) ≡ b
-    go true e = eq-eqb i (j - 1) (let p = eqb-true (suc i) j e in omega (arith, p))
-    go false e = ne_eqb i (j - 1) (λ q. eqb-false (suc i) j e (omega (arith, q, h)))

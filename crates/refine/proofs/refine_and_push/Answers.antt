@@ -1,14 +1,18 @@
 -- `refine_and_push` makes the entry tests, and then refines. Assumes nothing.
-use mathlib.Core.Path.{sym, ap}
+use mathlib.Core.Path.{sym}
 use native.Mathlib.Omega.{arith}
-use Rattle.refine.specs.Report.{ran}
+use Rattle.refine.specs.Report.{listed_run}
 use Rattle.refine.specs.Refinement.{refinement}
 use Rattle.refine.proofs.RefinementLaw.{entry_count}
+use Rattle.std.proofs.Common.{rules}
+use Rattle.refine.proofs.RefinementLaw.{ran_in}
 use Rattle.refine.proofs.refine_and_push.Goals as goal
 
-pub refine-requires : goal.refine-requires
-refine-requires c = let e = sym (rw c.in_ok-curve.was at c.entered.ensures.entry) in record { count_le_slots = (omega (arith, entry_count _ e, c.slots_in-slots.ensures), omega (arith, c.slots_in-slots.ensures), omega arith) }
+pub new-circles-requires : goal.new-circles-requires
+new-circles-requires c = let e = sym (rw c.in_ok-curve.was at c.entered.ensures.entry) in (omega (arith, entry_count _ e), omega (arith, entry_count _ e))
 
 pub returns : goal.returns
 unfolding refinement
-returns c = rw (← (rw c.in_ok-curve.was at c.entered.ensures.entry), ← c.slots_in-slots.ensures, ← c.in_ok-curve.ensures.lent.0) (ap ran c.refine.ensures)
+returns c =
+    let (now, slots, count) = c.new-circles.ensures.held in
+    rw (← (rw c.in_ok-curve.was at c.entered.ensures.entry), ← c.in_ok-curve.ensures.lent.0) (ran_in (listed_run c.refine.result) _ _ _ (search rules) (rw (now, slots, count, c.none_taken.ensures.0, c.none_taken.ensures.1) at c.refine.ensures.0))

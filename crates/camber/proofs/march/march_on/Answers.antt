@@ -1,15 +1,9 @@
 -- `march_on` works the circle of its crossing out, and then marches. Assumes nothing.
-use native.Mathlib.Omega.{arith}
+use Rattle.std.proofs.Common.{rules}
 use Rattle.camber.specs.March.{after_start}
+use Rattle.camber.proofs.PartLaws.{told_in}
 use Rattle.camber.proofs.march.march_on.Goals as goal
-
-pub march_from-requires : goal.march_from-requires
-march_from-requires c = record { width_in_bounds = (omega (arith, c.slots_in-slots.ensures), omega arith) }
 
 pub returns-in-Ok : goal.returns-in-Ok
 unfolding after_start
-returns-in-Ok c = λ section_tol line. rw (← (rw c.in-Ok.is at c.from_crossing.ensures), ← c.slots_in-slots.ensures) c.march_from.ensures
-
-pub returns-in-Err : goal.returns-in-Err
-unfolding after_start
-returns-in-Err c = λ section_tol line. rw (← (rw c.in-Err.is at c.from_crossing.ensures), c.refused.ensures)
+returns-in-Ok c = λ section_tol line. rw (← (rw c.in-Ok.is at c.from_crossing.ensures)) (told_in c.march_from.result _ _ _ (search rules) (rw (c.new-circles.ensures.held.0, c.new-circles.ensures.held.1, c.none_taken.ensures.0, c.none_taken.ensures.1) at c.march_from.ensures.0))

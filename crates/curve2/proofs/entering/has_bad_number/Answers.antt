@@ -1,12 +1,12 @@
-use Rattle.curve2.proofs.entering.Laws.{bad-found, bad_passed, bad_none}
-use Rattle.errors.proofs.Laws.{told}
+-- `has_bad_number` is test 2. Assumes nothing.
+use Rattle.std.proofs.Common.{◌∙◌, not, rules, tests}
+use Rattle.std.proofs.lemmas.Iterator.{YieldsList-from_slice}
+use Rattle.std.proofs.lemmas.Iterator.Search.{any_from_yields_List}
+use Rattle.curve2.specs.Entry.{in_range}
+use Rattle.curve2.proofs.entering.Laws.{bad_numbers_is}
 use Rattle.curve2.proofs.entering.has_bad_number.Goals as goal
 
-pub returns-then-not-is_in_range : goal.returns-then-not-is_in_range
-returns-then-not-is_in_range c = bad-found _ _ c.loop-x.invariant c.loop-x-test.true (told c.is_in_range.ensures c.if-not-is_in_range.true)
-
-pub loop-x-preserved : goal.loop-x-preserved
-loop-x-preserved c = bad_passed _ _ c.loop-x.invariant c.loop-x-test.true (told c.is_in_range.ensures c.if-not-is_in_range.false)
-
 pub returns : goal.returns
-returns c = bad_none _ _ c.loop-x.invariant c.loop-x-test.false
+returns c =
+    let ns = c.args.points.now in
+    any_from_yields_List (λ x. not (in_range x)) _ _ _ c.any.ensures.ran (YieldsList-from_slice ns cc) (λ x b q k. search (rules, tests)) ∙ bad_numbers_is ns

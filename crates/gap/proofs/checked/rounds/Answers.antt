@@ -1,5 +1,5 @@
 -- `rounds` keeps that what is left of the fit gives the whole. Assumes nothing.
-use mathlib.Core.Path.{refl, sym}
+use mathlib.Core.Path.{refl, sym, ◌∙◌}
 use Prim.Native.Nat.{◌+◌, ◌-◌}
 use native.Mathlib.Omega.{arith}
 use lib.Ieee.{div, of_bits}
@@ -9,19 +9,37 @@ use Rattle.gap.proofs.checked.rounds.Goals as goal
 
 pub loop-turn-init : goal.loop-turn-init
 unfolding div of_bits
-loop-turn-init c = (refl, record { low = c.requires.le_count.0; fits = c.requires.le_count.1; within = omega arith; holds = sym (stored-again _ _ (omega (arith, c.requires.le_count))); left = refl })
+loop-turn-init c = ((refl, refl), record { low = c.requires; fits = c.args.circles.now.in_store.0; within = omega arith; holds = sym (stored-again _ _ (omega (arith, c.args.circles.now.in_store))); left = refl })
 
-pub returns-then-drift-tol : goal.returns-then-drift-tol
-returns-then-drift-tol c = let l = c.loop-turn.invariant.1 in ends_here _ _ _ _ _ _ _ _ _ _ _ _ _ l (still _ _ _ _ _ _ _ _ _ _ _ _ _ l (20 - (c.loop-turn.turn + 1)) (omega arith) c.if-drift-tol.true) c.fitted.result (rw c.fitted.ensures)
+pub returns-then-reached-tol : goal.returns-then-reached-tol
+returns-then-reached-tol c =
+    let l = c.loop-turn.invariant.1 in
+    let told = ends_here _ _ _ _ _ _ _ _ _ _ _ _ _ l (still _ _ _ _ _ _ _ _ _ _ _ _ _ l (20 - (c.loop-turn.turn + 1)) (omega arith) c.if-reached-tol.true) c.finished.result (rw c.finished.ensures) in
+    (told.returned, told.left, c.loop-turn.invariant.0, rw c.finished.ensures)
 
 pub round-requires : goal.round-requires
-round-requires c = let l = c.loop-turn.invariant.1 in record { le_count = (l.low, l.fits, omega (arith, c.requires.le_count, c.loop-turn.invariant.0), l.within) }
+round-requires c = c.loop-turn.invariant.1.low
 
-pub returns-in-Over : goal.returns-in-Over
-returns-in-Over c = round-over _ _ _ _ _ _ _ _ _ _ _ _ _ c.loop-turn.invariant.1 (20 - (c.loop-turn.turn + 1)) (omega arith) c.if-drift-tol.false c.round.new.store c.round.result c.round.ensures _ c.in-Over.is
+pub invariant_of-units : goal.invariant_of-units
+invariant_of-units c = record { within = c.loop-turn.invariant.1.within }
+
+pub returns-in-Break : goal.returns-in-Break
+returns-in-Break c =
+    let before = c.loop-turn.invariant.0 in
+    let (returned, left, same, count) = c.round.ensures in
+    let told = round-over _ _ _ _ _ _ _ _ _ _ _ _ _ c.loop-turn.invariant.1 (20 - (c.loop-turn.turn + 1)) (omega arith) c.if-reached-tol.false c.round.new.circles.store.now c.round.new.circles.count c.round.result (record { returned = returned; left = left }) _ c.in-Break.is in
+    (told.returned, told.left, (same.0 ∙ before.0, same.1 ∙ before.1), sym (rw c.in-Break.is at count))
 
 pub loop-turn-preserved : goal.loop-turn-preserved
-loop-turn-preserved c = (omega (arith, c.loop-turn.invariant.0, c.round.auto.store), round_next _ _ _ _ _ _ _ _ _ _ _ _ _ c.loop-turn.invariant.1 (20 - (c.loop-turn.turn + 1)) (omega arith) c.if-drift-tol.false c.round.new.store c.round.result c.round.ensures _ c.in-Next.is)
+loop-turn-preserved c =
+    let before = c.loop-turn.invariant.0 in
+    let (returned, left, same, count) = c.round.ensures in (
+      (same.0 ∙ before.0, same.1 ∙ before.1),
+      rw same.1 (round_next _ _ _ _ _ _ _ _ _ _ _ _ _ c.loop-turn.invariant.1 (20 - (c.loop-turn.turn + 1)) (omega arith) c.if-reached-tol.false c.round.new.circles.store.now c.round.new.circles.count c.round.result (record { returned = returned; left = left }) _ c.in-Continue.is),
+    )
 
 pub returns : goal.returns
-returns c = let l = c.loop-turn.invariant.1 in ends_here _ _ _ _ _ _ _ _ _ _ _ _ _ l (no_more _ _ _ _ _ _ _ _ _ _ _ _ _ l (omega arith)) c.fitted-2.result (rw c.fitted-2.ensures)
+returns c =
+    let l = c.loop-turn.invariant.1 in
+    let told = ends_here _ _ _ _ _ _ _ _ _ _ _ _ _ l (no_more _ _ _ _ _ _ _ _ _ _ _ _ _ l (omega arith)) c.finished-2.result (rw c.finished-2.ensures) in
+    (told.returned, told.left, c.loop-turn.invariant.0, rw c.finished-2.ensures)

@@ -3,6 +3,6 @@ use Rattle.orient.specs.Orientation.{fwd_asked}
 use Rattle.orient.proofs.Laws.{asked_bounds}
 use Rattle.orient.proofs.OrientFwdAft.apply.Goals as goal
 
-pub reverse_order_only-requires : goal.reverse_order_only-requires
+pub new-requires : goal.new-requires
 unfolding fwd_asked
-reverse_order_only-requires c = asked_bounds _ _ _ _ _ c.in_ok-turn.ensures
+new-requires c = asked_bounds _ _ _ _ _ c.in_ok-turn.ensures

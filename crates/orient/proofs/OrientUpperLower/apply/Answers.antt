@@ -3,6 +3,6 @@ use Rattle.orient.specs.Orientation.{upper_asked}
 use Rattle.orient.proofs.Laws.{asked_bounds}
 use Rattle.orient.proofs.OrientUpperLower.apply.Goals as goal
 
-pub reverse_points-requires : goal.reverse_points-requires
+pub new-requires : goal.new-requires
 unfolding upper_asked
-reverse_points-requires c = asked_bounds _ _ _ _ _ c.in_ok-swap.ensures
+new-requires c = asked_bounds _ _ _ _ _ c.in_ok-swap.ensures

@@ -1,12 +1,16 @@
-use native.Mathlib.Omega.{arith}
-use Rattle.queries.proofs.joined.Laws.{place_found, place_passed, place_end}
+-- `place_of` finds the first that is greater. Assumes nothing.
+use Rattle.std.proofs.Common.{◌∙◌, ap, length, rules, tests}
+use Rattle.std.proofs.lemmas.Iterator.{YieldsList-from_slice}
+use Rattle.std.proofs.lemmas.Iterator.Search.{position_from_yields_List}
+use Rattle.std.specs.Prelude.{unwrap_or}
+use Rattle.std.specs.Float.Ieee.{lt}
+use Rattle.queries.proofs.joined.Laws.{place_told}
 use Rattle.queries.proofs.joined.place_of.Goals as goal
 
-pub returns-then-t-hits : goal.returns-then-t-hits
-returns-then-t-hits c = place_found _ _ c.loop-place.place c.loop-place.invariant _ c.loop-place-test.true c.if-t-hits.true
-
-pub loop-place-preserved : goal.loop-place-preserved
-loop-place-preserved c = place_passed _ _ c.loop-place.place c.loop-place.invariant _ c.loop-place-test.true c.if-t-hits.false
-
 pub returns : goal.returns
-returns c = place_end _ _ c.loop-place.place c.loop-place.invariant (omega arith)
+returns c =
+    let gs = c.args.hits.now in
+    let t = c.args.t in
+    c.unwrap_or.ensures
+    ∙ ap (λ r. unwrap_or r (length gs)) (position_from_yields_List (λ g. lt t g.t) _ _ _ c.position.ensures.ran (YieldsList-from_slice gs cc) (λ x b q k. search (rules, tests)))
+    ∙ place_told t gs

@@ -1,64 +1,60 @@
 -- `refine_behind` is the refinement run from the circles in its store on, where there is one. Assumes nothing.
-use mathlib.Core.Path.{refl, sym}
+use mathlib.Core.Path.{refl, sym, ◌∙◌}
 use native.Mathlib.Omega.{arith}
 use Prim.Native.Nat.{◌<◌}
 use lib.ListN.{length, length-reverse}
-use Rattle.std.proofs.lemmas.Bool.{false≢true}
+use Rattle.std.proofs.lemmas.Bool.{false≢true, leb-true, leb-false}
 use Rattle.std.proofs.lemmas.List.{nil_from_length}
 use Rattle.refine.proofs.RefineLaws.{newest, loop_start, loop_finished, loop_spent, loop_refused, loop_added, loop_accepted, room_to_wait, room_to_take}
 use Rattle.refine.proofs.waiting.refine_behind.Goals as goal
 
 pub loop-top-init : goal.loop-top-init
-loop-top-init c = rw (c.push.ensures.items, c.new-waiting.ensures) (omega arith, omega arith, omega arith, omega arith, refl, loop_start _ _ _ _ _ _ _ _ (omega arith) (omega arith))
+loop-top-init c = let (fits, in_bounds) = c.args.circles.now.in_store in
+    rw (c.push.ensures.items, c.new-waiting.ensures) (omega arith, omega arith, omega arith, (refl, refl), loop_start _ _ _ _ _ _ _ _ fits in_bounds)
 
-pub returns-then-limit-u : goal.returns-then-limit-u
-returns-then-limit-u c = let at = c.loop-top in
+pub returns-then-is_spent : goal.returns-then-is_spent
+returns-then-is_spent c = let at = c.loop-top in
     rw c.spent.ensures
-    (loop_spent _ _ _ _ _ _ _ _ _ _ _ (rw (newest _ _ _ c.in-Some.ensures.items) at at.invariant.5) (λ e. omega arith) c.if-limit-u.true)
+    (loop_spent _ _ _ _ _ _ _ _ _ _ _ (rw (newest _ _ _ c.in-Some.ensures.items) at at.invariant.4) (λ e. omega arith) (omega (arith, at.invariant.1, leb-true _ _ (sym c.is_spent.ensures ∙ c.if-is_spent.true))), at.invariant.3, refl)
 
 pub push-requires-in-Ok-Some-2 : goal.push-requires-in-Ok-Some-2
-push-requires-in-Ok-Some-2 c = (omega arith, omega (arith, c.len.ensures.value, c.push-in-Ok-Some.ensures.len, room_to_wait _ _ _ _ _ (sym (rw (c.in-Ok-Some.is, c.in-Ok-Some.field-0-is) at c.tried.ensures))))
+push-requires-in-Ok-Some-2 c = (omega arith, omega (arith, c.len.ensures.value, c.push-in-Ok-Some.ensures.len, room_to_wait _ _ _ _ _ (sym (rw (c.last-last.ensures, c.in-Ok-Some.is, c.in-Ok-Some.field-0-is) at c.tried.ensures))))
 
 pub loop-top-smaller-in-Ok-Some : goal.loop-top-smaller-in-Ok-Some
-loop-top-smaller-in-Ok-Some c = omega (arith, c.in-Some.ensures.len, c.push-in-Ok-Some.ensures.len, c.push-in-Ok-Some-2.ensures.len, c.len.ensures.value, room_to_wait _ _ _ _ _ (sym (rw (c.in-Ok-Some.is, c.in-Ok-Some.field-0-is) at c.tried.ensures)))
+loop-top-smaller-in-Ok-Some c = omega (arith, c.in-Some.ensures.len, c.push-in-Ok-Some.ensures.len, c.push-in-Ok-Some-2.ensures.len, c.len.ensures.value, room_to_wait _ _ _ _ _ (sym (rw (c.last-last.ensures, c.in-Ok-Some.is, c.in-Ok-Some.field-0-is) at c.tried.ensures)))
 
 pub loop-top-preserved-in-Ok-Some : goal.loop-top-preserved-in-Ok-Some
 loop-top-preserved-in-Ok-Some c = let at = c.loop-top in
-    let room = room_to_wait _ _ _ _ _ (sym (rw (c.in-Ok-Some.is, c.in-Ok-Some.field-0-is) at c.tried.ensures)) in (
+    let room = room_to_wait _ _ _ _ _ (sym (rw (c.last-last.ensures, c.in-Ok-Some.is, c.in-Ok-Some.field-0-is) at c.tried.ensures)) in (
       omega (arith, c.push-in-Ok-Some.ensures.len, c.push-in-Ok-Some-2.ensures.len, c.len.ensures.value),
-      omega arith,
-      omega arith,
+      c.take-u.ensures.0 ∙ at.invariant.1,
+      at.invariant.2,
       at.invariant.3,
-      at.invariant.4,
-      rw (newest _ _ _ c.push-in-Ok-Some-2.ensures.items, newest _ _ _ c.push-in-Ok-Some.ensures.items)
-          (loop_added _ _ _ _ _ _ _ _ _ _ _ (rw (newest _ _ _ c.in-Some.ensures.items) at at.invariant.5) (λ e. omega arith) (omega arith) _ (omega (arith, length-reverse c.pop.new.self.items, c.len.ensures.value)) _ (sym (rw (c.in-Ok-Some.is, c.in-Ok-Some.field-0-is, c.circle_at-last.ensures) at c.tried.ensures))),
+      rw (c.take-u.ensures.1, newest _ _ _ c.push-in-Ok-Some-2.ensures.items, newest _ _ _ c.push-in-Ok-Some.ensures.items)
+          (loop_added _ _ _ _ _ _ _ _ _ _ _ (rw (newest _ _ _ c.in-Some.ensures.items) at at.invariant.4) (λ e. omega arith) (omega (arith, at.invariant.1, leb-false _ _ (sym c.is_spent.ensures ∙ c.if-is_spent.false))) _ (omega (arith, length-reverse c.pop.new.self.items, c.len.ensures.value)) _ (sym (rw (c.last-last.ensures, c.in-Ok-Some.is, c.in-Ok-Some.field-0-is) at c.tried.ensures))),
     )
 
-pub put_circle-requires : goal.put_circle-requires
-put_circle-requires c = omega (arith, room_to_take _ _ _ _ (sym (rw (c.in-Ok-None.is, c.in-Ok-None.field-0-is) at c.tried.ensures)))
-
-pub loop-top-smaller : goal.loop-top-smaller
-loop-top-smaller c = omega (arith, c.in-Some.ensures.len, room_to_take _ _ _ _ (sym (rw (c.in-Ok-None.is, c.in-Ok-None.field-0-is) at c.tried.ensures)))
+pub push-requires-in-Ok-None : goal.push-requires-in-Ok-None
+push-requires-in-Ok-None c = room_to_take _ _ _ _ (sym (rw (c.last-last.ensures, c.in-Ok-None.is, c.in-Ok-None.field-0-is) at c.tried.ensures))
 
 pub loop-top-preserved : goal.loop-top-preserved
 loop-top-preserved c = let at = c.loop-top in
-    let room = room_to_take _ _ _ _ (sym (rw (c.in-Ok-None.is, c.in-Ok-None.field-0-is) at c.tried.ensures)) in (
+    let pushed = c.push-in-Ok-None.ensures in (
       omega (arith, c.in-Some.ensures.len),
-      omega arith,
-      omega arith,
-      omega arith,
-      omega (arith, c.put_circle.auto.store),
-      rw c.put_circle.ensures
-          (loop_accepted _ _ _ _ _ _ _ _ _ _ _ (rw (newest _ _ _ c.in-Some.ensures.items) at at.invariant.5) (λ e. omega arith) (omega arith) _ (omega (arith, length-reverse c.pop.new.self.items, c.len.ensures.value)) (sym (rw (c.in-Ok-None.is, c.in-Ok-None.field-0-is, c.circle_at-last.ensures) at c.tried.ensures))),
+      c.take-u.ensures.0 ∙ at.invariant.1,
+      omega (arith, pushed.2),
+      (pushed.0.0 ∙ at.invariant.3.0, pushed.0.1 ∙ at.invariant.3.1),
+      rw (c.take-u.ensures.1, pushed.0.1, pushed.1, pushed.2)
+          (loop_accepted _ _ _ _ _ _ _ _ _ _ _ (rw (newest _ _ _ c.in-Some.ensures.items) at at.invariant.4) (λ e. omega arith) (omega (arith, at.invariant.1, leb-false _ _ (sym c.is_spent.ensures ∙ c.if-is_spent.false))) _ (omega (arith, length-reverse c.pop.new.self.items, c.len.ensures.value)) (sym (rw (c.last-last.ensures, c.in-Ok-None.is, c.in-Ok-None.field-0-is) at c.tried.ensures))),
     )
 
 pub returns-in-Err : goal.returns-in-Err
 returns-in-Err c = let at = c.loop-top in
-    rw c.refused.ensures
-    (loop_refused _ _ _ _ _ _ _ _ _ _ _ (rw (newest _ _ _ c.in-Some.ensures.items) at at.invariant.5) (λ e. omega arith) (omega arith) _ (omega (arith, length-reverse c.pop.new.self.items, c.len.ensures.value)) _ (sym (rw (c.in-Err.is, c.circle_at-last.ensures) at c.tried.ensures)))
+    rw (c.refused.ensures, c.take-u.ensures.1)
+    (loop_refused _ _ _ _ _ _ _ _ _ _ _ (rw (newest _ _ _ c.in-Some.ensures.items) at at.invariant.4) (λ e. omega arith) (omega (arith, at.invariant.1, leb-false _ _ (sym c.is_spent.ensures ∙ c.if-is_spent.false))) _ (omega (arith, length-reverse c.pop.new.self.items, c.len.ensures.value)) _ (sym (rw (c.last-last.ensures, c.in-Err.is) at c.tried.ensures)), at.invariant.3, refl)
 
 pub returns : goal.returns
 returns c = let at = c.loop-top in
     let none_waits : 0 < length at.waiting.items → ⊥ = λ h. false≢true (c.in_default.ensures.variant.1 h) in
     let none = nil_from_length at.waiting.items (omega (arith, none_waits)) in
-    rw c.finished.ensures (loop_finished _ _ _ _ _ _ _ _ _ (rw none at at.invariant.5))
+    rw c.finished.ensures (loop_finished _ _ _ _ _ _ _ _ _ (rw none at at.invariant.4), at.invariant.3, refl)

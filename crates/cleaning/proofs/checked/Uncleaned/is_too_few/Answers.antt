@@ -1,17 +1,16 @@
-use Rattle.std.proofs.Common.{◌≡◌, ◌+◌, ◌*◌, arith}
-use Rattle.cleaning.proofs.Made.{too_few_points, second_found, second_not_here, no_second}
+-- `is_too_few` asks the points behind the first. Assumes nothing.
+use Rattle.std.proofs.Common.{◌∙◌, ◌+◌, ◌*◌, ◌/◌, ◌-◌, ◌≡◌, length, refl, rules, tests, arith}
+use Rattle.std.proofs.lemmas.Iterator.{YieldsList-from_range}
+use Rattle.std.proofs.lemmas.Iterator.Search.{all_from_yields_List}
+use Rattle.std.specs.Float.Ieee.{le}
+use Rattle.curve2.specs.Section.{plain_dist, point_at}
+use Rattle.cleaning.proofs.Made.{too_few_points}
 use Rattle.cleaning.proofs.checked.Uncleaned.is_too_few.Goals as goal
 
-pub loop-i-init : goal.loop-i-init
-loop-i-init c = too_few_points _ _ _ c.vertex_at-first.ensures c.args.self.now.least
-
-pub returns-then-not-plain_dist-self : goal.returns-then-not-plain_dist-self
-returns-then-not-plain_dist-self c = second_found _ c.args.self.now.points.now _ _ _ c.loop-i.invariant (omega arith) _ (rw c.vertex_at.ensures at c.plain_dist.ensures) c.if-not-plain_dist-self.true
-
-pub loop-i-preserved : goal.loop-i-preserved
-loop-i-preserved c =
-    let next : 2 * (c.loop-i.i + 1) ≡ 2 * c.loop-i.i + 2 = omega arith in
-    rw next (second_not_here _ c.args.self.now.points.now _ _ _ c.loop-i.invariant (omega arith) _ (rw c.vertex_at.ensures at c.plain_dist.ensures) c.if-not-plain_dist-self.false)
-
 pub returns : goal.returns
-returns c = no_second _ c.args.self.now.points.now _ _ _ c.loop-i.invariant (omega (arith, c.args.self.now.even))
+returns c =
+    let ns = c.args.self.now.points.now in
+    let n = length ns / 2 - 1 in
+    let whole : length ns ≡ 2 * (1 + n) = omega (arith, c.args.self.now.even, c.args.self.now.least) in
+    all_from_yields_List (λ i. le (plain_dist (point_at ns (2 * i)) c.vertex_at-first.result) c.args.self.now.tol) _ _ _ c.all.ensures.ran (YieldsList-from_range 1 (length ns / 2) n refl (omega (arith, whole))) (λ x b q k. search (rules, tests))
+    ∙ too_few_points c.args.self.now.tol ns c.vertex_at-first.result n c.vertex_at-first.ensures whole

@@ -1,1 +1,0 @@
--- What the code of a fit's start returns: it is the code's own. Assumes nothing.
