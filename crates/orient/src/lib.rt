@@ -123,7 +123,7 @@ fn check_upper(how: OrientUpperLower, store: &[f64], count: usize) -> Result<boo
     swap_of(how, &circles)
 }
 
-// Each of the two enums has a check and an `apply` of its own: their bodies are of one to three lines, and a trait for both, with its laws, would be longer.
+// Each of the two enums has a check and an `apply` of its own: their bodies are of two to five lines, and a trait for both, with its laws, would be longer.
 impl OrientFwdAft {
     // Brings the circles in use into leading-to-trailing order; says whether the order was turned. Contacts stay.
     pub fn apply(self, store: &mut [f64], count: usize) -> Result<bool, Refusal>
