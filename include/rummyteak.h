@@ -35,6 +35,8 @@ extern "C" {
 #define RUMMYTEAK_CLEANED 4095
 /* Bytes that are shuffled, at most: 9,216 numbers of eight. */
 #define RUMMYTEAK_BYTES 73728
+/* Bytes of the longest hand-over record: that of 1,024 circles, no number of which is +0. */
+#define RUMMYTEAK_RECORD 75778
 /* The largest limit: no limit is felt. */
 #define RUMMYTEAK_NO_LIMIT UINT32_MAX
 
@@ -87,6 +89,10 @@ enum rummyteak_ending {
     RUMMYTEAK_WRONG_KIND = 22,
     /* a run with a general tolerance smaller than its section tolerance; tested straight after 3 */
     RUMMYTEAK_FINER_THAN_SECTION = 23,
+    /* a hand-over record that ends early, or has bytes left over */
+    RUMMYTEAK_RECORD_LENGTH = 24,
+    /* a hand-over record's map with one of bits 9 to 15, or with a bit over a field that is all zero */
+    RUMMYTEAK_RECORD_MAP = 25,
     /* bytes of stored numbers: a count that isn't a multiple of eight, or is above 73,728 */
     RUMMYTEAK_BYTE_COUNT = 26
 };
@@ -240,6 +246,18 @@ uint32_t rummyteak_is_open_at_end(const double *section, size_t section_len, dou
 uint32_t rummyteak_fit_open_edge(const double *section, size_t section_len, double section_tol, double tol,
                                  double *store, size_t store_len, size_t stated, bool at_front, uint32_t limit,
                                  double *point, size_t *count, uint32_t *units);
+
+/* ---- the hand-over record: circles as one string of bytes, the least significant byte of each number first
+ *
+ * A 16-bit count; then per circle a 16-bit map, bit 0 for centre x and so on to bit 8 in stored order, and eight bytes for each
+ * number whose bit stands. A bit stands where the number's 64 bits are not all zero: -0 is written, and a clear bit is +0. */
+
+/* The circles in use of a store, into out (2 bytes and 74 for each circle are always enough): how many bytes were written. */
+uint32_t rummyteak_write_record(const double *store, size_t store_len, size_t count, uint8_t *out, size_t out_len,
+                                size_t *written);
+
+/* A record's circles, into the store from its start on: how many they are. The bytes are all of the record and nothing else. */
+uint32_t rummyteak_read_record(const uint8_t *bytes, size_t bytes_len, double *store, size_t store_len, size_t *count);
 
 /* ---- stored numbers as bytes, eight to a number, into out (as many bytes at least) */
 

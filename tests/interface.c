@@ -497,6 +497,98 @@ static void stored_bytes(void)
     release_bytes(bytes), release_bytes(out), release_bytes(none);
 }
 
+/* A buffer of n bytes that ends where a page without access begins; `at` is where it starts. */
+static uint8_t *ending_bytes(size_t n, uint8_t **at)
+{
+    *at = marked_bytes(n);
+    return *at + (8 - n % 8) % 8;
+}
+
+/* The ending of the first n bytes of a record, with byte k of them put to `byte`; k may be beyond them. */
+static uint32_t read_with(const uint8_t *record, size_t n, size_t k, uint8_t byte, double *store, size_t *count)
+{
+    uint8_t *at, *bytes = ending_bytes(n, &at);
+    memcpy(bytes, record, n);
+    if (k < n)
+        bytes[k] = byte;
+    uint32_t ending = rummyteak_read_record(bytes, n, store, 3 * W, count);
+    release_bytes(at);
+    return ending;
+}
+
+/* One circle whose numbers are all x: how long its record is, and whether its bits come back. */
+static void one_circle(double x, size_t length, uint8_t low, uint8_t high)
+{
+    double *store = marked(W), *back = marked(W);
+    uint8_t *at, *out = ending_bytes(length, &at);
+    size_t written = 77, count = 77;
+    for (size_t i = 0; i < W; i++)
+        store[i] = x;
+    EXPECT(rummyteak_write_record(store, W, 1, out, length, &written) == 0 && written == length);
+    EXPECT(out[0] == 1 && out[1] == 0 && out[2] == low && out[3] == high);
+    EXPECT(rummyteak_read_record(out, length, back, W, &count) == 0 && count == 1 && same(store, back, W));
+    release(store), release(back), release_bytes(at);
+}
+
+/* The longest record there and back. */
+static void longest_record(void)
+{
+    size_t numbers = W * RUMMYTEAK_SLOTS, written = 77, count = 77;
+    double *store = marked(numbers + W), *back = marked(numbers);
+    uint8_t *at, *out = ending_bytes(RUMMYTEAK_RECORD, &at);
+    for (size_t i = 0; i < numbers + W; i++)
+        store[i] = 1.0 + (double)i / 7.0;
+    EXPECT(rummyteak_write_record(store, numbers + W, RUMMYTEAK_SLOTS + 1, out, RUMMYTEAK_RECORD, &written) == 4);
+    EXPECT(rummyteak_write_record(store, numbers, RUMMYTEAK_SLOTS, out, RUMMYTEAK_RECORD - 1, &written) == 4);
+    EXPECT(written == 77 && untouched_bytes(at, 0, RUMMYTEAK_RECORD));
+    EXPECT(rummyteak_write_record(store, numbers, RUMMYTEAK_SLOTS, out, RUMMYTEAK_RECORD, &written) == 0);
+    EXPECT(written == RUMMYTEAK_RECORD);
+    EXPECT(rummyteak_read_record(out, RUMMYTEAK_RECORD, back, numbers - 1, &count) == 4);
+    EXPECT(count == 77 && untouched(back, 0, numbers));
+    EXPECT(rummyteak_read_record(out, RUMMYTEAK_RECORD, back, numbers, &count) == 0);
+    EXPECT(count == RUMMYTEAK_SLOTS && same(store, back, numbers));
+    release(store), release(back), release_bytes(at);
+}
+
+/* Both circles of PAIR have one number that is +0, the fifth: 66 bytes each. */
+static void records(void)
+{
+    double *store = copy(PAIR, 2 * W), *back = marked(3 * W);
+    uint8_t *out = marked_bytes(136), *none = marked_bytes(0);
+    size_t written = 77, count = 77;
+    EXPECT(rummyteak_write_record(store, 2 * W, 2, out, 133, &written) == 4);
+    EXPECT(rummyteak_write_record(store, 2 * W, 3, out, 136, &written) == 4);
+    EXPECT(rummyteak_write_record(NULL, 0, 0, none, 0, &written) == 4);
+    store[2 * W - 1] = -1.0;
+    EXPECT(rummyteak_write_record(store, 2 * W, 2, out, 136, &written) == 2);
+    store[2 * W - 1] = NAN;
+    EXPECT(rummyteak_write_record(store, 2 * W, 2, out, 133, &written) == 4);
+    EXPECT(rummyteak_write_record(store, 2 * W, 2, out, 134, &written) == 2);
+    EXPECT(written == 77 && untouched_bytes(out, 0, 136));
+    EXPECT(rummyteak_write_record(store, 2 * W, 1, out, 68, &written) == 0 && written == 68);
+    store[2 * W - 1] = PAIR[2 * W - 1];
+    EXPECT(rummyteak_write_record(store, 2 * W, 2, out, 136, &written) == 0 && written == 134);
+    EXPECT(out[0] == 2 && out[1] == 0 && out[2] == 0xef && out[3] == 1 && untouched_bytes(out, 134, 136));
+    /* cut at every byte, a byte left over, a count that doesn't fit, bit 9, bit 4 over the next field, a radius below zero */
+    for (size_t n = 0; n < 134; n++)
+        EXPECT(read_with(out, n, n, 0, back, &count) == 24);
+    EXPECT(read_with(out, 135, 135, 0, back, &count) == 24);
+    EXPECT(read_with(out, 134, 0, 4, back, &count) == 4 && read_with(out, 134, 1, 1, back, &count) == 4);
+    EXPECT(read_with(out, 134, 0, 3, back, &count) == 24 && read_with(out, 134, 0, 1, back, &count) == 24);
+    EXPECT(read_with(out, 134, 3, 3, back, &count) == 25 && read_with(out, 134, 69, 0x81, back, &count) == 25);
+    EXPECT(read_with(out, 134, 27, 0xbf, back, &count) == 2);
+    EXPECT(rummyteak_read_record(out, 134, back, 2 * W - 1, &count) == 4);
+    EXPECT(rummyteak_read_record(NULL, 0, NULL, 0, &count) == 24);
+    EXPECT(count == 77 && untouched(back, 0, 3 * W));
+    EXPECT(rummyteak_read_record(out, 134, back, 3 * W, &count) == 0 && count == 2);
+    EXPECT(same(back, PAIR, 2 * W) && untouched(back, 2 * W, 3 * W));
+    EXPECT(rummyteak_write_record(NULL, 0, 0, out, 2, &written) == 0 && written == 2 && out[0] == 0 && out[1] == 0);
+    EXPECT(rummyteak_read_record(out, 2, NULL, 0, &count) == 0 && count == 0);
+    one_circle(0.0, 4, 0, 0), one_circle(-0.0, 76, 0xff, 1), one_circle(2.5, 76, 0xff, 1);
+    longest_record();
+    release(store), release(back), release_bytes(out), release_bytes(none);
+}
+
 int main(void)
 {
     roots();
@@ -509,6 +601,7 @@ int main(void)
     curves();
     orientation();
     edges();
+    records();
     stored_bytes();
     all_turns();
     printf("C interface: %d checks, %d wrong\n", checks, wrong);

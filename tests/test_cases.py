@@ -21,7 +21,7 @@ from rummyteak._library import _arguments, call  # noqa: E402
 LEFT_OUT = {"sample", "roots", "rot90", "normalize", "halfway", "intersection_param", "closest_on_edge", "end_camber_ray", "isqrt_u64", "isqrt_u32", "index_of_tmax_of"}
 
 # The table speaks of numbers: what is asked of bytes stands in test_rummyteak.py and in interface.c.
-ON_BYTES = {"shuffle", "unshuffle", "transpose_words"}
+ON_BYTES = {"write_record", "read_record", "shuffle", "unshuffle", "transpose_words"}
 
 # The table's short names.
 NAMES = {name[len("orient_") :]: name for name in _arguments if name.startswith("orient_")}

@@ -145,6 +145,89 @@ class Rows(unittest.TestCase):
         self.refused(23, rt.fit_open_edge, U, G, T, PAIR, True)
         self.assertTrue(rt.is_open_at_end(U, G, T, PAIR, True))
 
+    def written(self, circles):
+        """The record of circles by its description, from the standard library alone."""
+        record = struct.pack("<H", len(circles))
+        for c in circles:
+            fields = [bits(x) for x in c]
+            record += struct.pack("<H", sum(1 << i for i, field in enumerate(fields) if field))
+            record += b"".join(struct.pack("<Q", field) for field in fields if field)
+        return record
+
+    def test_records_written_and_read(self):
+        marched = rt.march(R, T, G, (4, 1, 0, 1)).circles
+        full = [rt.Inscribed(*(1 + (9 * k + i) / 7 for i in range(9))) for k in range(1024)]
+        sparse = [rt.Inscribed(*(float(k + i) if k >> i & 1 else 0.0 for i in range(9))) for k in range(512)]
+        for circles, length in (
+            ((), 2), ((rt.Inscribed(*[0.0] * 9),), 4), ((rt.Inscribed(*[-0.0] * 9),), 76), (full[:1], 76), (PAIR, 134), (marched, None), (sparse, None), (full, 75778),
+            ((rt.Inscribed(-1e308, 5e-324, 0, -5e-324, 1e308, -1, -2, 0, 5e-324),), 60),
+        ):
+            with self.subTest(circles=len(circles), length=length):
+                record = rt.write_record(circles)
+                self.assertEqual(record, self.written(circles))
+                self.assertIn(length, (None, len(record)))
+                back = rt.read_record(record, len(circles))
+                self.assertEqual([[bits(x) for x in c] for c in back], [[bits(x) for x in c] for c in circles])
+                self.assertEqual(rt.read_record(bytearray(record)), back)
+        self.assertEqual(rt.write_record([rt.Inscribed(*[-0.0] * 9)])[2:4], b"\xff\x01")
+
+    def test_records_refused(self):
+        nan, inf = float("nan"), float("inf")
+        record = rt.write_record(PAIR)
+        for end in range(len(record)):
+            self.refused(24, rt.read_record, record[:end])
+        self.refused(24, rt.read_record, record + b"\0")
+        self.refused(4, rt.read_record, record, 1)
+        self.refused(4, rt.read_record, b"\xff\xff")
+        self.refused(4, rt.read_record, struct.pack("<H", 1025) + bytes(2 * 1025))
+        self.refused(4, rt.write_record, PAIR * 513)
+        one = [struct.pack("<d", x) for x in (3, 2, 1, 3, 1, 3, 3, 3, 9)]
+        whole = lambda fields: b"\x01\0\xff\x01" + b"".join(fields)  # noqa: E731
+        self.assertEqual(rt.read_record(whole(one)), (rt.Inscribed(3, 2, 1, 3, 1, 3, 3, 3, 9),))
+        for bit in range(9, 16):
+            for map in (1 << bit, 1 << bit | 0x1FF):
+                self.refused(25, rt.read_record, struct.pack("<HH", 1, map))
+        for i in range(9):
+            with self.subTest(field=i):
+                changed = lambda x: whole(one[:i] + [struct.pack("<d", x)] + one[i + 1 :])  # noqa: E731
+                zero = changed(0.0)
+                self.refused(25, rt.read_record, zero)
+                self.refused(25, rt.read_record, zero + b"left over")
+                self.refused(25, rt.read_record, zero[: 12 + 8 * i])
+                self.refused(24, rt.read_record, zero[: 11 + 8 * i])
+                for x in (nan, inf, -inf, -1.0, -5e-324):
+                    circle = [*range(1, 10)]
+                    circle[i] = x
+                    if x == x and x > -inf and x < inf and i not in (2, 7, 8):
+                        self.assertEqual(rt.read_record(changed(x))[0][i], x)
+                        self.assertEqual(rt.read_record(rt.write_record([circle]))[0], tuple(circle))
+                        continue
+                    self.refused(2, rt.read_record, changed(x))
+                    self.refused(2, rt.read_record, changed(x)[: 12 + 8 * i])
+                    self.refused(24, rt.read_record, changed(x)[: 11 + 8 * i])
+                    self.refused(2, rt.write_record, [circle])
+                    self.refused(2, rt.write_record, [*PAIR, circle])
+        # a bad number is met before the bad map behind it, and the other way round
+        self.refused(2, rt.read_record, struct.pack("<HHdH", 2, 1, nan, 0xFFFF))
+        self.refused(25, rt.read_record, struct.pack("<HHHd", 2, 0x200, 1, nan))
+        # the writer: 4 before 2, by the record's own length
+        store = (ctypes.c_double * 9)(nan)
+        for room, number in ((12, 2), (11, 4), (0, 4)):
+            out, written = (ctypes.c_uint8 * 12)(*[77] * 12), ctypes.c_size_t(5)
+            self.assertEqual(call("write_record", store, 9, 1, out, room, written), number)
+            self.assertEqual((bytes(out), written.value), (b"M" * 12, 5))
+        self.assertEqual(call("write_record", store, 9, 2, out, 12, written), 4)
+        # no refusal changes the store, one at the last byte neither; a result leaves the later slots and bytes
+        store, count = (ctypes.c_double * 27)(*[7.5] * 27), ctypes.c_size_t(5)
+        for cut in (record[:-1], record + b"\0", record[:-8] + bytes(8), record[:-8] + struct.pack("<d", -1)):
+            self.assertNotEqual(call("read_record", (ctypes.c_uint8 * len(cut))(*cut), len(cut), store, 27, count), 0)
+        self.assertEqual((list(store), count.value), ([7.5] * 27, 5))
+        self.assertEqual(call("read_record", (ctypes.c_uint8 * len(record))(*record), len(record), store, 27, count), 0)
+        self.assertEqual((list(store), count.value), ([x for c in PAIR for x in c] + [7.5] * 9, 2))
+        out = (ctypes.c_uint8 * 140)(*[77] * 140)
+        self.assertEqual(call("write_record", store, 27, 2, out, 140, written), 0)
+        self.assertEqual((bytes(out), written.value), (record + b"M" * 6, len(record)))
+
     def test_bytes(self):
         for n in (0, 1, 2, 7, 8, 9, 15, 16, 17, 9216):
             with self.subTest(n=n):
@@ -255,6 +338,10 @@ class Types(unittest.TestCase):
             (ValueError, rt.transpose_words, [2**64] * 8),
             (TypeError, rt.transpose_words, [1.0] * 8),
             (ValueError, rt.unshuffle, memoryview(bytes(32))[::2]),
+            (ValueError, rt.write_record, [(4, 1, 1)]),
+            (TypeError, rt.read_record, [0, 0]),
+            (ValueError, rt.read_record, memoryview(bytes(4))[::2]),
+            (ValueError, rt.read_record, bytes(2), -1),
         ):
             with self.subTest(function=function.__name__, args=args):
                 with self.assertRaises(error) as caught:
@@ -302,6 +389,7 @@ class Header(unittest.TestCase):
         self.assertEqual((self.defined("RUMMYTEAK_WIDTH"), rt.WIDTH), (width, width))
         self.assertEqual((self.defined("RUMMYTEAK_SLOTS"), rt.SLOTS), (slots, slots))
         self.assertEqual((self.defined("RUMMYTEAK_POINTS"), self.defined("RUMMYTEAK_CLEANED")), (points, points - 1))
+        self.assertEqual(self.defined("RUMMYTEAK_RECORD"), 2 + slots * (2 + 8 * width))
         self.assertEqual(self.defined("RUMMYTEAK_BYTES"), self.constant("MOST_BYTES", "shuffle", "src", "lib.rt"))
 
     def test_endings(self):
@@ -388,6 +476,7 @@ class Command(unittest.TestCase):
         for args in (
             ("--tol",), (), ("examples/open.dat", "--tol", "wide"), ("examples/open.dat", "--limit", "-1"), ("examples/open.dat", "--limit", "4294967296"),
             ("examples/open.dat", "--slots", "1025"), ("examples/open.dat", "--end", "left"), ("examples/open.dat", "--fwd", "1", "0", "--airflow", "1", "0"),
+            ("examples/open.dat", "--record", "-"), ("examples/open.dat", "examples/thick.dat", "--record", "a.bin"),
             ("examples/open.dat", "examples/thick.dat", "--csv", "-"), ("examples/open.dat", "--csv", "-", "--json", "-"),
         ):
             with self.subTest(args=args):
@@ -435,8 +524,8 @@ class Command(unittest.TestCase):
 
     def test_outputs(self):
         with tempfile.TemporaryDirectory() as folder:
-            names = [str(Path(folder) / n) for n in ("a.json", "a.csv", "a.svg")]
-            self.run_command("examples/open.dat", "--json", names[0], "--csv", names[1], "--svg", names[2])
+            names = [str(Path(folder) / n) for n in ("a.json", "a.csv", "a.svg", "a.bin")]
+            self.run_command("examples/open.dat", "--json", names[0], "--csv", names[1], "--svg", names[2], "--record", names[3])
             told = json.loads(Path(names[0]).read_text())
             run = rt.extract_circles(told["points"], T, G, told["line"])
             circles, told_turned = rt.orient_tmax_fwd(run.circles)
@@ -447,6 +536,7 @@ class Command(unittest.TestCase):
             header, *rows = Path(names[1]).read_text().splitlines()
             self.assertEqual(header.split(","), list(rt.Inscribed._fields))
             self.assertEqual([[float(x) for x in row.split(",")] for row in rows], told["circles"])
+            self.assertEqual([list(c) for c in rt.read_record(Path(names[3]).read_bytes())], told["circles"])
             self.run_command("examples/open.dat", "--between", "10", "80", "--points", names[1])
             self.assertEqual(list(read(names[1])), list(rt.between_lengths(told["points"], T, 10, 80).numbers), "a stretch reads back to the same bits")
 

@@ -28,7 +28,7 @@ __all__ = [
     "refine_and_push", "march", "extract_circles", "front_and_back", "index_of_tmax", "average_spacing", "end_clip_line",
     "reverse_points", "reverse_order_only", "reverse_order", "circles_from", "camber_curve", "make_camber_curve",
     "orient_tmax_fwd", "orient_airflow", "orient_fwd", "orient_curvature", "orient_upper", "orient_lower", "is_open_at_end", "fit_open_edge",
-    "shuffle", "unshuffle", "transpose_words",
+    "write_record", "read_record", "shuffle", "unshuffle", "transpose_words",
 ]
 
 
@@ -613,21 +613,50 @@ def fit_open_edge(
     return Fit(run.number, (point[0], point[1]) if run.number == 0 else None, run.circles, run.units)
 
 
-# ---- stored numbers as bytes
+# ---- the hand-over record
 
 
-def _rearranged(name: str, data: Any) -> bytes:
+# The bytes of a record: of its count, and of one circle at most.
+_COUNT_BYTES, _CIRCLE_BYTES = 2, 2 + 8 * WIDTH
+
+
+def _bytes_of(name: str, data: Any) -> Any:
+    """The bytes of a buffer as a ctypes array, which keeps them alive."""
     try:
         view = memoryview(data)
     except TypeError:
         raise TypeError(f"{name}: bytes, or a buffer of numbers, not {data!r}") from None
     if not view.c_contiguous:
         raise ValueError(f"{name}: the buffer isn't contiguous")
-    size = view.nbytes
-    array_type = ctypes.c_uint8 * size
-    given = array_type.from_buffer_copy(view) if view.readonly or not size else array_type.from_buffer(view)
-    out = array_type()
-    _ask(name, given, size, out, size)
+    array_type = ctypes.c_uint8 * view.nbytes
+    return array_type.from_buffer_copy(view) if view.readonly or not view.nbytes else array_type.from_buffer(view)
+
+
+def write_record(circles: Circles) -> bytes:
+    """The circles as a hand-over record: a count, then per circle a map of its numbers and those that aren't +0, each the least significant byte first."""
+    store = _stored(circles)
+    out = (ctypes.c_uint8 * (_COUNT_BYTES + _CIRCLE_BYTES * len(circles)))()
+    written = ctypes.c_size_t()
+    _ask("write_record", store, len(store), len(circles), out, len(out), written)
+    return bytes(out[: written.value])
+
+
+def read_record(data: Any, slots: int = SLOTS) -> Tuple[Inscribed, ...]:
+    """The circles of a hand-over record, at most so many."""
+    given = _bytes_of("read_record", data)
+    store = _stored((), slots)
+    count = ctypes.c_size_t()
+    _ask("read_record", given, len(given), store, len(store), count)
+    return _circles(store, count.value)
+
+
+# ---- stored numbers as bytes
+
+
+def _rearranged(name: str, data: Any) -> bytes:
+    given = _bytes_of(name, data)
+    out = type(given)()
+    _ask(name, given, len(given), out, len(out))
     return bytes(out)
 
 

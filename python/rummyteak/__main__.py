@@ -14,7 +14,7 @@ from ._library import load
 from .blade import Options, worked_out
 from .files import Unreadable, read
 from .picture import svg
-from .report import NO_INPUT, NO_LIBRARY, NO_OUTPUT, WRONG_CALL, as_csv, as_json, as_points, message, table, told
+from .report import NO_INPUT, NO_LIBRARY, NO_OUTPUT, WRONG_CALL, as_csv, as_json, as_points, as_record, message, table, told
 
 
 class _Parser(argparse.ArgumentParser):
@@ -60,6 +60,7 @@ def parser() -> argparse.ArgumentParser:
     words.add_argument("--slots", type=_whole(SLOTS), default=default.slots, help="circles at most (%(default)s)")
     words.add_argument("--points", metavar="FILE", help="write the points of the section, cleaned and cut, as x y lines; - is standard output")
     words.add_argument("--csv", metavar="FILE", help="write the circles as CSV; - is standard output")
+    words.add_argument("--record", metavar="FILE", help="write the circles as a hand-over record, which is bytes: to a file, not to standard output")
     words.add_argument("--json", metavar="FILE", help="write everything as JSON; - is standard output")
     words.add_argument("--svg", metavar="FILE", help="write the picture; - is standard output")
     return words
@@ -135,6 +136,9 @@ def _one(name: str, options: Options, args: argparse.Namespace) -> int:
         elif where is not None:
             with open(where, "w", encoding="utf-8") as file:
                 file.write(text())
+    if args.record is not None:
+        with open(args.record, "wb") as record:
+            record.write(as_record(blade))
     trouble = message(name, blade)
     if trouble:
         sys.stdout.flush()
@@ -146,9 +150,11 @@ def main(arguments: Optional[List[str]] = None) -> int:
     """Runs the command and returns its exit status."""
     words = parser()
     args = words.parse_args(arguments)
-    outputs = [name for name in (args.points, args.csv, args.json, args.svg) if name is not None]
+    outputs = [name for name in (args.points, args.csv, args.record, args.json, args.svg) if name is not None]
     if outputs and len(args.files) > 1:
-        words.error("--points, --csv, --json and --svg go with one file")
+        words.error("--points, --csv, --record, --json and --svg go with one file")
+    if args.record == "-":
+        words.error("--record goes to a file, not to standard output")
     if len(set(outputs)) < len(outputs):
         words.error("two outputs have the same name")
     try:

@@ -38,6 +38,8 @@ WORDS = {
     21: "the stretch is empty: its lengths are too near, its end lies before its start, or under two points remain",
     22: "the split is for the other kind of section, open or closed",
     23: "the general tolerance is smaller than the section tolerance",
+    24: "the record ends early, or has bytes left over",
+    25: "a map of the record has one of bits 9 to 15, or a bit over a field that is zero",
     26: "the bytes are no whole numbers of eight, or more than 9,216 of them",
 }
 
@@ -98,6 +100,8 @@ _arguments = {
     "orient_lower": [d, d, *_slice, n, B],
     "is_open_at_end": [*_slice, d, d, *_slice, n, b, B],
     "fit_open_edge": [*_slice, d, d, *_slice, n, b, u, P, N, U],
+    "write_record": [*_slice, n, *_bytes, N],
+    "read_record": [*_bytes, *_slice, N],
     "shuffle": [*_bytes, *_bytes],
     "unshuffle": [*_bytes, *_bytes],
     "transpose_words": [ctypes.POINTER(ctypes.c_uint64)],

@@ -1,4 +1,4 @@
-"""What is told of a blade: a table for a person, a line where there are several files, CSV and JSON."""
+"""What is told of a blade: a table for a person, a line where there are several files, CSV, JSON and the hand-over record."""
 
 from __future__ import annotations
 
@@ -8,7 +8,7 @@ import json
 from dataclasses import asdict
 from typing import Any, Dict, List, Tuple
 
-from . import WORDS, Inscribed
+from . import WORDS, Inscribed, write_record
 from .blade import Blade, Options, worked_out
 from .files import Unreadable, read
 
@@ -39,6 +39,8 @@ ADVICE = {
     21: "hand in lengths farther apart, the smaller one first where the section is open",
     22: "ask for the split of the other kind of section",
     23: "hand in a --tol no smaller than --section-tol",
+    24: "hand in all bytes of one record, and no others",
+    25: "look for bytes that were changed or moved on the way",
     26: "hand in eight bytes for each number, and 9,216 numbers at most",
 }
 
@@ -106,6 +108,11 @@ def as_csv(blade: Blade) -> str:
     writer.writerow(Inscribed._fields)
     writer.writerows([repr(x) for x in c] for c in blade.circles)
     return text.getvalue()
+
+
+def as_record(blade: Blade) -> bytes:
+    """The circles as a hand-over record."""
+    return write_record(blade.circles)
 
 
 def as_json(name: str, blade: Blade, options: Options) -> str:

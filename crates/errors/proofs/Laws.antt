@@ -4,7 +4,7 @@ use native.Mathlib.Omega.{arith}
 use Rattle.std.specs.Prelude.{Ok, Err, IsErrAnd}
 use Rattle.errors.specs.Answer.{Answer, ◌>>=◌, number_of}
 use Rattle.errors.specs.declared.Refusal.{Refusal}
-use Rattle.errors.specs.declared.Refusal.TheVariants.{PointCount, BadNumber, Tolerance, NoRoom, TooFewKept, NotSpaced, TooFewCircles, NoCrossing, OffCurve, TooLong, ZeroLength, NotFinite, NoAdvance, StoreFull, StackFull, ClosedSection, GapBehind, GapParallel, GapMissed, EmptyStretch, WrongKind, FinerThanSection, ByteCount}
+use Rattle.errors.specs.declared.Refusal.TheVariants.{PointCount, BadNumber, Tolerance, NoRoom, TooFewKept, NotSpaced, TooFewCircles, NoCrossing, OffCurve, TooLong, ZeroLength, NotFinite, NoAdvance, StoreFull, StackFull, ClosedSection, GapBehind, GapParallel, GapMissed, EmptyStretch, WrongKind, FinerThanSection, RecordLength, RecordMap, ByteCount}
 
 -- r is what the call gives, d what its definition says, t how the test went
 pub told : {A : Type 0} {r d t : A} → r ≡ d → r ≡ t → d ≡ t
@@ -45,6 +45,8 @@ not_0 GapMissed p = omega (arith, p)
 not_0 EmptyStretch p = omega (arith, p)
 not_0 WrongKind p = omega (arith, p)
 not_0 FinerThanSection p = omega (arith, p)
+not_0 RecordLength p = omega (arith, p)
+not_0 RecordMap p = omega (arith, p)
 not_0 ByteCount p = omega (arith, p)
 
 pub not_14 : (r : Refusal) → number_of r ≡ 14 → ⊥
@@ -70,4 +72,6 @@ not_14 GapMissed p = omega (arith, p)
 not_14 EmptyStretch p = omega (arith, p)
 not_14 WrongKind p = omega (arith, p)
 not_14 FinerThanSection p = omega (arith, p)
+not_14 RecordLength p = omega (arith, p)
+not_14 RecordMap p = omega (arith, p)
 not_14 ByteCount p = omega (arith, p)

@@ -53,6 +53,10 @@ pub enum Refusal {
     WrongKind,
     // 23: a general tolerance smaller than the section tolerance.
     FinerThanSection,
+    // 24: a record that ends early, or has bytes left over.
+    RecordLength,
+    // 25: a map of a record with a bit beyond a circle's numbers, or with a bit that stands over a zero field.
+    RecordMap,
     // 26: a byte count that isn't a multiple of eight, or is above 73,728.
     ByteCount,
 }
@@ -85,6 +89,8 @@ impl From<Refusal> for u32 {
             Refusal::EmptyStretch => 21,
             Refusal::WrongKind => 22,
             Refusal::FinerThanSection => 23,
+            Refusal::RecordLength => 24,
+            Refusal::RecordMap => 25,
             Refusal::ByteCount => 26,
         }
     }

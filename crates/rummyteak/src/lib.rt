@@ -8,6 +8,7 @@ pub mod curve;
 pub mod edge;
 mod given;
 pub mod list;
+pub mod records;
 pub mod run;
 pub mod section;
 pub mod stretch;

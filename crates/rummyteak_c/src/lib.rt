@@ -6,6 +6,7 @@ pub mod circle;
 pub mod curve;
 pub mod edge;
 pub mod list;
+pub mod records;
 pub mod run;
 pub mod section;
 pub mod stretch;

@@ -1,0 +1,3 @@
+-- The hand-over record of a list of circles, written and read.
+pub mod Record
+pub mod Code
