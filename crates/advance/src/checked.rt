@@ -36,10 +36,10 @@ fn tries(section: &Curve2<'_>, tol: f64, c: Inscribed, ray: SurfacePoint2, units
         if steps::step_of(c, k) < tol {
             return Advanced::Ended(RunEnd::Finished(()), u.taken);
         }
-        if u.is_spent() {
-            return Advanced::Ended(RunEnd::Spent, u.taken);
+        match u.take() {
+            Some(more) => u = more,
+            None => return Advanced::Ended(RunEnd::Spent, u.taken),
         }
-        u = u.take();
         match steps::tried_line(section, c, ray, k) {
             Ok(None) => {}
             Ok(Some(x)) => return circle_of(section, tol, x, u.taken),

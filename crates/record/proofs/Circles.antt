@@ -1,16 +1,16 @@
 -- Circles put into a store, and into a record, one after the other. Assumes nothing.
 use mathlib.Core.Path.{◌≡◌, refl, ◌∙◌}
 use mathlib.Core.List.{List, [], ◌++◌}
-use Prim.Native.Nat.{ℕ, suc, ◌+◌, ◌-◌, ◌≤◌, ◌<◌}
+use Prim.Native.Nat.{ℕ, suc, ◌+◌, ◌≤◌, ◌<◌}
 use native.Mathlib.Omega.{arith}
 use lib.ListN.{length, get_or, take, length-take}
 use lib.Seq.{take-suc}
 use lib.Ieee.{Float}
-use Rattle.inscribed.specs.Store.{circle_at, circles_from, all_numbers, stored}
+use Rattle.inscribed.specs.Store.{all_numbers, stored}
 use Rattle.inscribed.specs.Code.{with_circle}
 use Rattle.inscribed.specs.declared.Inscribed.{Inscribed}
 use Rattle.inscribed.proofs.StoreLaws.{stored_push}
-use Rattle.record.specs.Record.{short_bytes, circle_record, circles_record, record_of}
+use Rattle.record.specs.Record.{short_bytes, circles_record, record_of}
 use Rattle.record.specs.Code.{placed, Puts}
 use Rattle.record.proofs.Placed.{Left, left_start, left_room, left_put}
 
@@ -23,17 +23,6 @@ store_more cs k d old mid new h e n =
     let next : k + 1 ≡ suc k = omega arith in
     let long : length (take k cs) ≡ k = omega (arith, length-take k cs) in
     rw (next, take-suc cs k d h) (n ∙ rw e (rw long at (stored_push (take k cs) old (get_or cs k d))))
-
-pub record_next : (ns : List Float) (count k : ℕ) → k < count → circles_record (circles_from ns k (count - k)) ≡ circle_record (circle_at ns k) ++ circles_record (circles_from ns (k + 1) (count - (k + 1)))
-unfolding circles_record circles_from
-record_next ns count k h =
-    let left : count - k ≡ suc (count - (k + 1)) = omega (arith, h) in
-    let next : k + 1 ≡ suc k = omega arith in
-    rw (left, next) refl
-
-pub record_done : (ns : List Float) (count k : ℕ) → count ≤ k → circles_record (circles_from ns k (count - k)) ≡ []
-unfolding circles_record circles_from
-record_done ns count k h = let none : count - k ≡ 0 = omega (arith, h) in rw none refl
 
 -- ---- the count, and what is left then
 

@@ -82,6 +82,19 @@ longest_reached =
     let long : length cs ≡ most_slots = length-replicate most_slots unit_circle in
     (cs, long, omega (arith, record_length cs, long, units_ones most_slots))
 
+-- ---- circles from one of a store on: the first, then the others
+
+pub record_next : (ns : List Float) (count k : ℕ) → k < count → circles_record (circles_from ns k (count - k)) ≡ circle_record (circle_at ns k) ++ circles_record (circles_from ns (k + 1) (count - (k + 1)))
+unfolding circles_record circles_from
+record_next ns count k h =
+    let left : count - k ≡ suc (count - (k + 1)) = omega (arith, h) in
+    let next : k + 1 ≡ suc k = omega arith in
+    rw (left, next) refl
+
+pub record_done : (ns : List Float) (count k : ℕ) → count ≤ k → circles_record (circles_from ns k (count - k)) ≡ []
+unfolding circles_record circles_from
+record_done ns count k h = let none : count - k ≡ 0 = omega (arith, h) in rw none refl
+
 -- ---- the loop of `record_length`: what is left, with the sum so far, makes the whole
 
 abbrev pub SumTo : List Float → ℕ → ℕ → ℕ → Type 0
@@ -91,20 +104,14 @@ pub sum_start : (ns : List Float) (count : ℕ) → SumTo ns count 2 0
 unfolding record_of
 sum_start ns count = let all : count - 0 ≡ count = omega arith in (rw all (omega (arith, length-append (short_bytes (length (circles_of ns count))) (circles_record (circles_of ns count)), short_length (length (circles_of ns count)))), omega arith)
 
-record-more : (ns : List Float) (k n : ℕ) → length (circles_record (circles_from ns k (suc n))) ≡ length (circle_record (circle_at ns k)) + length (circles_record (circles_from ns (k + 1) n))
-unfolding circles_record circles_from
-record-more ns k n = let next : k + 1 ≡ suc k = omega arith in rw next (length-append (circle_record (circle_at ns k)) (circles_record (circles_from ns (suc k) n)))
-
 pub sum_next : (ns : List Float) (count sum k : ℕ) → k < count → SumTo ns count sum k → SumTo ns count (sum + length (circle_record (circle_at ns k))) (k + 1)
 sum_next ns count sum k h s =
-    let left : count - k ≡ suc (count - (k + 1)) = omega (arith, h) in
     let c = circle_length (circle_at ns k) in
-    let before = rw left at s.0 in
-    (omega (arith, before, record-more ns k (count - (k + 1))), omega (arith, s.1, c.0, c.1))
+    let before = rw (record_next ns count k h) at s.0 in
+    (omega (arith, before, length-append (circle_record (circle_at ns k)) (circles_record (circles_from ns (k + 1) (count - (k + 1))))), omega (arith, s.1, c.0, c.1))
 
 pub circle_short : (c : Inscribed) → length (circle_record c) ≤ 74
 circle_short c = omega (arith, (circle_length c).0, (circle_length c).1)
 
 pub sum_end : (ns : List Float) (count sum k : ℕ) → count ≤ k → SumTo ns count sum k → sum ≡ length (record_of (circles_of ns count))
-unfolding circles_record circles_from
-sum_end ns count sum k h s = let none : count - k ≡ 0 = omega (arith, h) in omega (arith, rw none at s.0)
+sum_end ns count sum k h s = omega (arith, rw (record_done ns count k h) at s.0)

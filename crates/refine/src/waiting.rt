@@ -27,10 +27,10 @@ pub(crate) fn refine_behind(
     waiting.push(circle);
     let mut u = units;
     while let Some(top) = waiting.pop() {
-        if u.is_spent() {
-            return Run::spent(circles.count, u.taken);
+        match u.take() {
+            Some(more) => u = more,
+            None => return Run::spent(circles.count, u.taken),
         }
-        u = u.take();
         let last = circles.last();
         match moves::tried(section, tol, circles, waiting.len() + 1, last, top) {
             Ok(Some(added)) => {

@@ -1,7 +1,7 @@
 // Runs counted in units, and what a limit does to them: refinement and march are such runs. And the units of a run, counted within its limit.
 #![tactic(auto)]
 
-ghost use Rattle.std.specs.Prelude.{◌≡◌, ◌+◌, ◌≤◌, ◌<◌};
+ghost use Rattle.std.specs.Prelude.{◌≡◌, ◌+◌, ◌≤◌, is_none, IfSome};
 ghost use Rattle.runs.specs.Run.{under_limit};
 
 // The units that a run has taken, and the limit they are held to.
@@ -20,21 +20,18 @@ impl Units {
         Units { limit, taken: 0 }
     }
 
-    // Whether no unit may follow.
-    pub fn is_spent(self) -> bool
-        ensures { result ≡ under_limit self.limit self.taken }
+    // One unit more, or none where the run is spent.
+    pub fn take(self) -> Option<Units>
+        ensures spent { is_none result ≡ under_limit self.limit self.taken }
+        ensures one { IfSome result (λ u. (u.limit ≡ self.limit) × (u.taken ≡ self.taken + 1)) }
     {
-        self.limit <= self.taken
-    }
-
-    // One unit more.
-    pub fn take(self) -> Units
-        requires { self.taken < self.limit }
-        ensures { (result.limit ≡ self.limit) × (result.taken ≡ self.taken + 1) }
-    {
-        Units {
-            limit: self.limit,
-            taken: self.taken + 1,
+        if self.limit <= self.taken {
+            None
+        } else {
+            Some(Units {
+                limit: self.limit,
+                taken: self.taken + 1,
+            })
         }
     }
 }

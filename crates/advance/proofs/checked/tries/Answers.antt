@@ -11,17 +11,17 @@ loop-k-init c = (refl, refl)
 pub returns-then-step_of-tol : goal.returns-then-step_of-tol
 returns-then-step_of-tol c = (tries-short _ _ _ _ _ c.loop-k.k _ _ c.loop-k.invariant.1 c.loop-k-test.true (rw c.step_of.ensures at c.if-step_of-tol.true), omega (arith, c.loop-k.invariant.0, c.loop-k.u.within))
 
-pub returns-then-is_spent : goal.returns-then-is_spent
-returns-then-is_spent c = (tries-spent _ _ _ _ _ c.loop-k.k _ _ c.loop-k.invariant.1 c.loop-k-test.true (rw c.step_of.ensures at c.if-step_of-tol.false) (omega (arith, c.loop-k.invariant.0, leb-true _ _ (sym c.is_spent.ensures ∙ c.if-is_spent.true))), omega (arith, c.loop-k.invariant.0, c.loop-k.u.within))
+pub returns-in-None : goal.returns-in-None
+returns-in-None c = (tries-spent _ _ _ _ _ c.loop-k.k _ _ c.loop-k.invariant.1 c.loop-k-test.true (rw c.step_of.ensures at c.if-step_of-tol.false) (omega (arith, c.loop-k.invariant.0, leb-true _ _ (sym c.in-None.ensures.spent))), omega (arith, c.loop-k.invariant.0, c.loop-k.u.within))
 
 pub returns-in-Ok-Some : goal.returns-in-Ok-Some
-returns-in-Ok-Some c = (c.circle_of.ensures ∙ (rw (← c.take-u.ensures.1) at (tries-found _ _ _ _ _ c.loop-k.k _ _ c.loop-k.invariant.1 c.loop-k-test.true (rw c.step_of.ensures at c.if-step_of-tol.false) (omega (arith, c.loop-k.invariant.0, leb-false _ _ (sym c.is_spent.ensures ∙ c.if-is_spent.false))) _ c.tried_line.ensures _ (rw c.in-Ok-Some.field-0-is at c.in-Ok-Some.is))), rw (c.circle_of.ensures, circle-units) (omega (arith, c.loop-k.invariant.0, c.take-u.ensures, leb-false _ _ (sym c.is_spent.ensures ∙ c.if-is_spent.false))))
+returns-in-Ok-Some c = (c.circle_of.ensures ∙ (rw (← c.in-Some.ensures.one.1) at (tries-found _ _ _ _ _ c.loop-k.k _ _ c.loop-k.invariant.1 c.loop-k-test.true (rw c.step_of.ensures at c.if-step_of-tol.false) (omega (arith, c.loop-k.invariant.0, leb-false _ _ (sym c.in-Some.ensures.spent))) _ c.tried_line.ensures _ (rw c.in-Ok-Some.field-0-is at c.in-Ok-Some.is))), rw (c.circle_of.ensures, circle-units) (omega (arith, c.loop-k.invariant.0, c.in-Some.ensures.one.1, leb-false _ _ (sym c.in-Some.ensures.spent))))
 
 pub returns-in-Err : goal.returns-in-Err
-returns-in-Err c = (rw c.take-u.ensures.1 (tries-refused _ _ _ _ _ c.loop-k.k _ _ c.loop-k.invariant.1 c.loop-k-test.true (rw c.step_of.ensures at c.if-step_of-tol.false) (omega (arith, c.loop-k.invariant.0, leb-false _ _ (sym c.is_spent.ensures ∙ c.if-is_spent.false))) _ c.tried_line.ensures _ c.in-Err.is), omega (arith, c.loop-k.invariant.0, c.take-u.ensures, leb-false _ _ (sym c.is_spent.ensures ∙ c.if-is_spent.false)))
+returns-in-Err c = (rw c.in-Some.ensures.one.1 (tries-refused _ _ _ _ _ c.loop-k.k _ _ c.loop-k.invariant.1 c.loop-k-test.true (rw c.step_of.ensures at c.if-step_of-tol.false) (omega (arith, c.loop-k.invariant.0, leb-false _ _ (sym c.in-Some.ensures.spent))) _ c.tried_line.ensures _ c.in-Err.is), omega (arith, c.loop-k.invariant.0, c.in-Some.ensures.one.1, leb-false _ _ (sym c.in-Some.ensures.spent)))
 
 pub loop-k-preserved : goal.loop-k-preserved
-loop-k-preserved c = (c.take-u.ensures.0 ∙ c.loop-k.invariant.0, rw c.take-u.ensures.1 (tries_missed _ _ _ _ _ c.loop-k.k _ _ c.loop-k.invariant.1 c.loop-k-test.true (rw c.step_of.ensures at c.if-step_of-tol.false) (omega (arith, c.loop-k.invariant.0, leb-false _ _ (sym c.is_spent.ensures ∙ c.if-is_spent.false))) _ c.tried_line.ensures (rw c.in-Ok-None.field-0-is at c.in-Ok-None.is)))
+loop-k-preserved c = (c.in-Some.ensures.one.0 ∙ c.loop-k.invariant.0, rw c.in-Some.ensures.one.1 (tries_missed _ _ _ _ _ c.loop-k.k _ _ c.loop-k.invariant.1 c.loop-k-test.true (rw c.step_of.ensures at c.if-step_of-tol.false) (omega (arith, c.loop-k.invariant.0, leb-false _ _ (sym c.in-Some.ensures.spent))) _ c.tried_line.ensures (rw c.in-Ok-None.field-0-is at c.in-Ok-None.is)))
 
 pub returns : goal.returns
 returns c = ((tries-over _ _ _ _ _ c.loop-k.k _ _ c.loop-k.invariant.1 (omega arith)), omega (arith, c.loop-k.invariant.0, c.loop-k.u.within))

@@ -3,7 +3,8 @@ use native.Mathlib.Omega.{arith}
 use mathlib.Core.Path.{◌≡◌}
 use Rattle.inscribed.proofs.StoreLaws.{length-circles}
 use Rattle.record.proofs.Words.{short_is}
-use Rattle.record.proofs.Circles.{record_next, record_done, count_room, count_put}
+use Rattle.record.proofs.Lengths.{record_next, record_done}
+use Rattle.record.proofs.Circles.{count_room, count_put}
 use Rattle.record.proofs.Placed.{left_room, left_put, left_end}
 use Rattle.record.proofs.writing.put_record.Goals as goal
 

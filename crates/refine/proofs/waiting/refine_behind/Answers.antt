@@ -12,10 +12,10 @@ pub loop-top-init : goal.loop-top-init
 loop-top-init c = let (fits, in_bounds) = c.args.circles.now.in_store in
     rw (c.push.ensures.items, c.new-waiting.ensures) (omega arith, omega arith, omega arith, (refl, refl), loop_start _ _ _ _ _ _ _ _ fits in_bounds)
 
-pub returns-then-is_spent : goal.returns-then-is_spent
-returns-then-is_spent c = let at = c.loop-top in
+pub returns-in-None : goal.returns-in-None
+returns-in-None c = let at = c.loop-top in
     rw c.spent.ensures
-    (loop_spent _ _ _ _ _ _ _ _ _ _ _ (rw (newest _ _ _ c.in-Some.ensures.items) at at.invariant.4) (λ e. omega arith) (omega (arith, at.invariant.1, leb-true _ _ (sym c.is_spent.ensures ∙ c.if-is_spent.true))), at.invariant.3, refl)
+    (loop_spent _ _ _ _ _ _ _ _ _ _ _ (rw (newest _ _ _ c.in-Some.ensures.items) at at.invariant.4) (λ e. omega arith) (omega (arith, at.invariant.1, leb-true _ _ (sym c.in-None.ensures.spent))), at.invariant.3, refl)
 
 pub push-requires-in-Ok-Some-2 : goal.push-requires-in-Ok-Some-2
 push-requires-in-Ok-Some-2 c = (omega arith, omega (arith, c.len.ensures.value, c.push-in-Ok-Some.ensures.len, room_to_wait _ _ _ _ _ (sym (rw (c.last-last.ensures, c.in-Ok-Some.is, c.in-Ok-Some.field-0-is) at c.tried.ensures))))
@@ -27,11 +27,11 @@ pub loop-top-preserved-in-Ok-Some : goal.loop-top-preserved-in-Ok-Some
 loop-top-preserved-in-Ok-Some c = let at = c.loop-top in
     let room = room_to_wait _ _ _ _ _ (sym (rw (c.last-last.ensures, c.in-Ok-Some.is, c.in-Ok-Some.field-0-is) at c.tried.ensures)) in (
       omega (arith, c.push-in-Ok-Some.ensures.len, c.push-in-Ok-Some-2.ensures.len, c.len.ensures.value),
-      c.take-u.ensures.0 ∙ at.invariant.1,
+      c.in-Some-take.ensures.one.0 ∙ at.invariant.1,
       at.invariant.2,
       at.invariant.3,
-      rw (c.take-u.ensures.1, newest _ _ _ c.push-in-Ok-Some-2.ensures.items, newest _ _ _ c.push-in-Ok-Some.ensures.items)
-          (loop_added _ _ _ _ _ _ _ _ _ _ _ (rw (newest _ _ _ c.in-Some.ensures.items) at at.invariant.4) (λ e. omega arith) (omega (arith, at.invariant.1, leb-false _ _ (sym c.is_spent.ensures ∙ c.if-is_spent.false))) _ (omega (arith, length-reverse c.pop.new.self.items, c.len.ensures.value)) _ (sym (rw (c.last-last.ensures, c.in-Ok-Some.is, c.in-Ok-Some.field-0-is) at c.tried.ensures))),
+      rw (c.in-Some-take.ensures.one.1, newest _ _ _ c.push-in-Ok-Some-2.ensures.items, newest _ _ _ c.push-in-Ok-Some.ensures.items)
+          (loop_added _ _ _ _ _ _ _ _ _ _ _ (rw (newest _ _ _ c.in-Some.ensures.items) at at.invariant.4) (λ e. omega arith) (omega (arith, at.invariant.1, leb-false _ _ (sym c.in-Some-take.ensures.spent))) _ (omega (arith, length-reverse c.pop.new.self.items, c.len.ensures.value)) _ (sym (rw (c.last-last.ensures, c.in-Ok-Some.is, c.in-Ok-Some.field-0-is) at c.tried.ensures))),
     )
 
 pub push-requires-in-Ok-None : goal.push-requires-in-Ok-None
@@ -41,17 +41,17 @@ pub loop-top-preserved : goal.loop-top-preserved
 loop-top-preserved c = let at = c.loop-top in
     let pushed = c.push-in-Ok-None.ensures in (
       omega (arith, c.in-Some.ensures.len),
-      c.take-u.ensures.0 ∙ at.invariant.1,
+      c.in-Some-take.ensures.one.0 ∙ at.invariant.1,
       omega (arith, pushed.2),
       (pushed.0.0 ∙ at.invariant.3.0, pushed.0.1 ∙ at.invariant.3.1),
-      rw (c.take-u.ensures.1, pushed.0.1, pushed.1, pushed.2)
-          (loop_accepted _ _ _ _ _ _ _ _ _ _ _ (rw (newest _ _ _ c.in-Some.ensures.items) at at.invariant.4) (λ e. omega arith) (omega (arith, at.invariant.1, leb-false _ _ (sym c.is_spent.ensures ∙ c.if-is_spent.false))) _ (omega (arith, length-reverse c.pop.new.self.items, c.len.ensures.value)) (sym (rw (c.last-last.ensures, c.in-Ok-None.is, c.in-Ok-None.field-0-is) at c.tried.ensures))),
+      rw (c.in-Some-take.ensures.one.1, pushed.0.1, pushed.1, pushed.2)
+          (loop_accepted _ _ _ _ _ _ _ _ _ _ _ (rw (newest _ _ _ c.in-Some.ensures.items) at at.invariant.4) (λ e. omega arith) (omega (arith, at.invariant.1, leb-false _ _ (sym c.in-Some-take.ensures.spent))) _ (omega (arith, length-reverse c.pop.new.self.items, c.len.ensures.value)) (sym (rw (c.last-last.ensures, c.in-Ok-None.is, c.in-Ok-None.field-0-is) at c.tried.ensures))),
     )
 
 pub returns-in-Err : goal.returns-in-Err
 returns-in-Err c = let at = c.loop-top in
-    rw (c.refused.ensures, c.take-u.ensures.1)
-    (loop_refused _ _ _ _ _ _ _ _ _ _ _ (rw (newest _ _ _ c.in-Some.ensures.items) at at.invariant.4) (λ e. omega arith) (omega (arith, at.invariant.1, leb-false _ _ (sym c.is_spent.ensures ∙ c.if-is_spent.false))) _ (omega (arith, length-reverse c.pop.new.self.items, c.len.ensures.value)) _ (sym (rw (c.last-last.ensures, c.in-Err.is) at c.tried.ensures)), at.invariant.3, refl)
+    rw (c.refused.ensures, c.in-Some-take.ensures.one.1)
+    (loop_refused _ _ _ _ _ _ _ _ _ _ _ (rw (newest _ _ _ c.in-Some.ensures.items) at at.invariant.4) (λ e. omega arith) (omega (arith, at.invariant.1, leb-false _ _ (sym c.in-Some-take.ensures.spent))) _ (omega (arith, length-reverse c.pop.new.self.items, c.len.ensures.value)) _ (sym (rw (c.last-last.ensures, c.in-Err.is) at c.tried.ensures)), at.invariant.3, refl)
 
 pub returns : goal.returns
 returns c = let at = c.loop-top in
