@@ -252,11 +252,14 @@ uint32_t rummyteak_fit_open_edge(const double *section, size_t section_len, doub
  * A 16-bit count; then per circle a 16-bit map, bit 0 for centre x and so on to bit 8 in stored order, and eight bytes for each
  * number whose bit stands. A bit stands where the number's 64 bits are not all zero: -0 is written, and a clear bit is +0. */
 
-/* The circles in use of a store, into out (2 bytes and 74 for each circle are always enough): how many bytes were written. */
+/* The circles in use of a store, into out (2 bytes and 74 for each circle are always enough): how many bytes were written.
+ * 4 for a count that the store doesn't hold or an out shorter than this record, then 2 for a bad circle. */
 uint32_t rummyteak_write_record(const double *store, size_t store_len, size_t count, uint8_t *out, size_t out_len,
                                 size_t *written);
 
-/* A record's circles, into the store from its start on: how many they are. The bytes are all of the record and nothing else. */
+/* A record's circles, into the store from its start on: how many they are. The bytes are all of the record and nothing else.
+ * From the front: 24 where a count, a map or a field is cut off, 4 for a count above the store's slots, 25 for a map or a field
+ * that is all zero, 2 for a bad number; bytes left over are 24, last. The store changes only where all of it was read. */
 uint32_t rummyteak_read_record(const uint8_t *bytes, size_t bytes_len, double *store, size_t store_len, size_t *count);
 
 /* ---- stored numbers as bytes, eight to a number, into out (as many bytes at least) */

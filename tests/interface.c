@@ -540,7 +540,7 @@ static void longest_record(void)
         store[i] = 1.0 + (double)i / 7.0;
     EXPECT(rummyteak_write_record(store, numbers + W, RUMMYTEAK_SLOTS + 1, out, RUMMYTEAK_RECORD, &written) == 4);
     EXPECT(rummyteak_write_record(store, numbers, RUMMYTEAK_SLOTS, out, RUMMYTEAK_RECORD - 1, &written) == 4);
-    EXPECT(written == 77 && untouched_bytes(at, 0, RUMMYTEAK_RECORD));
+    EXPECT(written == 77 && untouched_bytes(at, 0, (size_t)(out - at) + RUMMYTEAK_RECORD));
     EXPECT(rummyteak_write_record(store, numbers, RUMMYTEAK_SLOTS, out, RUMMYTEAK_RECORD, &written) == 0);
     EXPECT(written == RUMMYTEAK_RECORD);
     EXPECT(rummyteak_read_record(out, RUMMYTEAK_RECORD, back, numbers - 1, &count) == 4);
@@ -569,7 +569,7 @@ static void records(void)
     store[2 * W - 1] = PAIR[2 * W - 1];
     EXPECT(rummyteak_write_record(store, 2 * W, 2, out, 136, &written) == 0 && written == 134);
     EXPECT(out[0] == 2 && out[1] == 0 && out[2] == 0xef && out[3] == 1 && untouched_bytes(out, 134, 136));
-    /* cut at every byte, a byte left over, a count that doesn't fit, bit 9, bit 4 over the next field, a radius below zero */
+    /* cut at every byte, a byte left over, a count that doesn't fit, bit 9 of the first map, bit 15 of the second, a radius below zero */
     for (size_t n = 0; n < 134; n++)
         EXPECT(read_with(out, n, n, 0, back, &count) == 24);
     EXPECT(read_with(out, 135, 135, 0, back, &count) == 24);

@@ -219,8 +219,8 @@ class Rows(unittest.TestCase):
         self.assertEqual(call("write_record", store, 9, 2, out, 12, written), 4)
         # no refusal changes the store, one at the last byte neither; a result leaves the later slots and bytes
         store, count = (ctypes.c_double * 27)(*[7.5] * 27), ctypes.c_size_t(5)
-        for cut in (record[:-1], record + b"\0", record[:-8] + bytes(8), record[:-8] + struct.pack("<d", -1)):
-            self.assertNotEqual(call("read_record", (ctypes.c_uint8 * len(cut))(*cut), len(cut), store, 27, count), 0)
+        for number, text in ((24, record[:-1]), (24, record + b"\0"), (25, record[:-8] + bytes(8)), (2, record[:-8] + struct.pack("<d", -1))):
+            self.assertEqual(call("read_record", (ctypes.c_uint8 * len(text))(*text), len(text), store, 27, count), number)
         self.assertEqual((list(store), count.value), ([7.5] * 27, 5))
         self.assertEqual(call("read_record", (ctypes.c_uint8 * len(record))(*record), len(record), store, 27, count), 0)
         self.assertEqual((list(store), count.value), ([x for c in PAIR for x in c] + [7.5] * 9, 2))

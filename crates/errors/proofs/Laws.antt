@@ -1,5 +1,6 @@
 -- What a call's `ensures` and the test of its result say together, steps in a row, and two numbers that no refusal has. Assumes nothing.
 use mathlib.Core.Path.{◌≡◌, refl, sym, ◌∙◌}
+use mathlib.Core.Bool.{Bool, true, false, cond}
 use native.Mathlib.Omega.{arith}
 use Rattle.std.specs.Prelude.{Ok, Err, IsErrAnd}
 use Rattle.errors.specs.Answer.{Answer, ◌>>=◌, number_of}
@@ -19,6 +20,31 @@ handed_on (Err x) e p = rw p
 pub bind_assoc : {A B C : Type 0} (a : Answer A) (f : A → Answer B) (g : B → Answer C) → ((a >>= f) >>= g) ≡ (a >>= λ x. f x >>= g)
 bind_assoc (Ok x) f g = refl
 bind_assoc (Err n) f g = refl
+
+-- a step that passed, and so did those behind it: its value
+pub record Given {A B : Type 0} (a : Answer A) (f : A → Answer B) (b : B) : Type 0 where
+  pub value : A
+  pub is : a ≡ Ok value
+  pub gives : f value ≡ Ok b
+
+pub given : {A B : Type 0} (a : Answer A) (f : A → Answer B) (b : B) → (a >>= f) ≡ Ok b → Given a f b
+given (Ok x) f b e = record { value = x; is = refl; gives = e }
+given (Err n) f b e = absurd cc
+
+-- a test that refused nothing, where true is refused, and where false is
+pub passed_by : {A : Type 0} (t : Bool) (n : Refusal) (a : Answer A) (b : A) → cond t (Err n) a ≡ Ok b → (t ≡ false) × (a ≡ Ok b)
+passed_by true n a b e = absurd cc
+passed_by false n a b e = (refl, e)
+
+pub passed_on : {A : Type 0} (t : Bool) (n : Refusal) (a : Answer A) (b : A) → cond t a (Err n) ≡ Ok b → (t ≡ true) × (a ≡ Ok b)
+passed_on true n a b e = (refl, e)
+passed_on false n a b e = absurd cc
+
+abbrev done : {A : Type 0} → A → Answer A
+done x = Ok x
+
+pub ok_is : {A : Type 0} (x y : A) → done x ≡ done y → x ≡ y
+ok_is x y e = cc
 
 -- ---- no refusal has the number of a result, nor that of a spent run
 

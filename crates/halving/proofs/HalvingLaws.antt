@@ -9,6 +9,7 @@ use native.Mathlib.Omega.{arith}
 use lib.Ieee.{Float, lt}
 use Rattle.std.specs.Prelude.{Ok, Err}
 use Rattle.errors.specs.Answer.{Answer, ◌>>=◌}
+use Rattle.errors.proofs.Laws.{given}
 use Rattle.points.specs.Numbers.{◌+f◌, ◌*f◌, f0, f½, f1}
 use Rattle.points.specs.Points.{minus, dot_of, norm_of, dist_of}
 use Rattle.points.specs.declared.Point2.{Point2}
@@ -22,15 +23,6 @@ use Rattle.halving.specs.SourceLoop.{SourceLoop, stops, refuses, goes}
 use Rattle.halving.proofs.Dyadic.{dyadic, one_is_dyadic, zero_is_dyadic, last_is_dyadic, next_power, middle, apart}
 
 -- ---- a halving puts the middle in the place of one of the fractions
-
-pub record Given {A B : Type 0} (a : Answer A) (f : A → Answer B) (b : B) : Type 0 where
-  pub value : A
-  pub is : a ≡ Ok value
-  pub gives : f value ≡ Ok b
-
-pub given : {A B : Type 0} (a : Answer A) (f : A → Answer B) (b : B) → (a >>= f) ≡ Ok b → Given a f b
-given (Ok x) f b e = record { value = x; is = refl; gives = e }
-given (Err n) f b e = let z : ◌≡◌ {A = ℕ} 0 1 = cc in absurd (omega arith)
 
 abbrev middle_of : SearchEnds → Float
 middle_of e = (e.pos.f +f e.neg.f) *f f½

@@ -36,7 +36,7 @@ use Rattle.inscribed.specs.Store.{bad_length, bad_circle}
 use Rattle.inscribed.specs.declared.Inscribed.{Inscribed}
 use Rattle.halving.specs.Halving.{SearchEnds, search_end, halved, circle_between, is_wide, halving, most_halvings, two_to_minus52, resolve_tol, first_ends, halved_from, from_line}
 use Rattle.halving.specs.declared.bisection.InscribedEnd.{InscribedEnd}
-use Rattle.halving.proofs.HalvingLaws.{given}
+use Rattle.errors.proofs.Laws.{given}
 
 -- ---- a point on a line, and a nearest point with its fraction
 

@@ -27,7 +27,7 @@ fn has_finite_points(c: Inscribed) -> bool
 }
 
 // A radius or a length along that isn't finite, or is below zero.
-fn is_bad_length(x: f64) -> bool
+pub fn is_bad_length(x: f64) -> bool
     ensures { result ≡ bad_length x }
 {
     !x.all_finite() || x < 0.0

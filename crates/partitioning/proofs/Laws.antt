@@ -14,6 +14,7 @@ use lib.Ieee.Fits.{add-fits}
 use lib.Ieee.Scale.{finite}
 use Rattle.errors.specs.Answer.{Answer, ◌>>=◌}
 use Rattle.errors.specs.Lists.{last_of}
+use Rattle.errors.proofs.Laws.{passed_by, passed_on}
 use Rattle.errors.specs.declared.Refusal.TheVariants.{EmptyStretch, WrongKind}
 use Rattle.points.specs.Numbers.{◌+f◌, ◌-f◌, f0, is_within}
 use Rattle.points.specs.declared.Point2.{Point2}
@@ -297,14 +298,6 @@ both_are (Err r) b h e = let z : ◌≡◌ {A = ℕ} 0 1 = cc in absurd (omega a
 both_are (Ok s) (Err r) h e = let z : ◌≡◌ {A = ℕ} 0 1 = cc in absurd (omega arith)
 both_are (Ok s) (Ok t) h e = let is : record { first = s; second = t } ≡ h = cc in rw (← is) (refl, refl)
 
-right_kind : {A : Type 0} (b : Bool) (x : Answer A) (y : A) → cond b (Err WrongKind) x ≡ Ok y → x ≡ Ok y
-right_kind true x y e = let z : ◌≡◌ {A = ℕ} 0 1 = cc in absurd (omega arith)
-right_kind false x y e = e
-
-right_kind_closed : {A : Type 0} (b : Bool) (x : Answer A) (y : A) → cond b x (Err WrongKind) ≡ Ok y → x ≡ Ok y
-right_kind_closed true x y e = e
-right_kind_closed false x y e = let z : ◌≡◌ {A = ℕ} 0 1 = cc in absurd (omega arith)
-
 -- the whole length is a number of the format
 last_fits : (l m : Float) (ps : List Point2) → T (fits binary64 l) → T (fits binary64 m) → T (fits binary64 (last_of l (lengths_from m ps)))
 unfolding last_of lengths_from
@@ -323,7 +316,7 @@ split_open-holds ns tol l room0 room1 h fit e =
     let both = both_of (stretch_of ns tol f0 l) (stretch_of ns tol l (whole_length ns)) in
     let p = after_tests (stretch_entry ns tol (finite l) (is_short ns room0 || is_short ns room1)) (cond (is_closed ns tol) (Err WrongKind) both) h e in
     let r = two_cuttable ns tol room0 room1 (finite l) p.0 in
-    let q = both_are (stretch_of ns tol f0 l) (stretch_of ns tol l (whole_length ns)) h (right_kind (is_closed ns tol) both h p.1) in (
+    let q = both_are (stretch_of ns tol f0 l) (stretch_of ns tol l (whole_length ns)) h (passed_by (is_closed ns tol) WrongKind both h p.1).1 in (
       stretch_holds ns tol f0 l room0 r.0 (is_true (fits binary64 f0) f0-fits) fit h.first q.0,
       stretch_holds ns tol l (whole_length ns) room1 r.1 fit (whole_fits ns) h.second q.1,
     )
@@ -335,7 +328,7 @@ split_closed-holds ns tol l0 l1 room0 room1 h fit0 fit1 e =
     let both = both_of (stretch_of ns tol l0 l1) (stretch_of ns tol l1 l0) in
     let p = after_tests (stretch_entry ns tol (finite l0 && finite l1) (is_short ns room0 || is_short ns room1)) (cond (is_closed ns tol) both (Err WrongKind)) h e in
     let r = two_cuttable ns tol room0 room1 (finite l0 && finite l1) p.0 in
-    let q = both_are (stretch_of ns tol l0 l1) (stretch_of ns tol l1 l0) h (right_kind_closed (is_closed ns tol) both h p.1) in (
+    let q = both_are (stretch_of ns tol l0 l1) (stretch_of ns tol l1 l0) h (passed_on (is_closed ns tol) WrongKind both h p.1).1 in (
       stretch_holds ns tol l0 l1 room0 r.0 fit0 fit1 h.first q.0,
       stretch_holds ns tol l1 l0 room1 r.1 fit1 fit0 h.second q.1,
     )

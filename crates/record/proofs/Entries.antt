@@ -13,12 +13,12 @@ use Rattle.std.specs.Int.{w16}
 use Rattle.errors.specs.Answer.{◌>>=◌}
 use Rattle.errors.specs.declared.Refusal.{Refusal}
 use Rattle.errors.specs.declared.Refusal.TheVariants.{BadNumber, NoRoom}
+use Rattle.errors.proofs.Laws.{given, passed_by, ok_is}
 use Rattle.curve2.proofs.Laws.{none_bad, or_right}
 use Rattle.inscribed.specs.Store.{circles_of, bad_store, bad_store_count}
 use Rattle.inscribed.specs.declared.Inscribed.{Inscribed}
 use Rattle.record.specs.Record.{number_at, circle_read, circles_read, counted_read, record_of, write_entry, write_record, Wrote}
 use Rattle.record.specs.Code.{placed, Puts}
-use Rattle.record.proofs.Steps.{bind_ok, passed_by, ok_is}
 
 -- ---- the writer
 
@@ -54,15 +54,18 @@ pub circles_count : (n : ℕ) (bs : List ℕ) (x : List Inscribed × List ℕ) �
 unfolding circles_read
 circles_count zero bs x e = let f : ([], bs) ≡ x = ok_is ([], bs) x e in rw (← f) refl
 circles_count (suc n) bs x e =
-    let c = bind_ok (circle_read bs) (λ c. circles_read n c.1 >>= λ cs. Ok (c.0 ∷ cs.0, cs.1)) x e in
-    let cs = bind_ok (circles_read n c.0.1) (λ cs. Ok (c.0.0 ∷ cs.0, cs.1)) x c.2 in
-    let f : (c.0.0 ∷ cs.0.0, cs.0.1) ≡ x = ok_is (c.0.0 ∷ cs.0.0, cs.0.1) x cs.2 in
-    rw (← f) (ap suc (circles_count n c.0.1 cs.0 cs.1))
+    let one = given (circle_read bs) (λ c. circles_read n c.1 >>= λ cs. Ok (c.0 ∷ cs.0, cs.1)) x e in
+    let c = one.value in
+    let others = given (circles_read n c.1) (λ cs. Ok (c.0 ∷ cs.0, cs.1)) x one.gives in
+    let cs = others.value in
+    let f : (c.0 ∷ cs.0, cs.1) ≡ x = ok_is (c.0 ∷ cs.0, cs.1) x others.gives in
+    rw (← f) (ap suc (circles_count n c.1 cs others.is))
 
 -- as many circles as there are slots at most
 pub read_few : (bs : List ℕ) (most : ℕ) (cs : List Inscribed) (rest : List ℕ) → Ok (cs, rest) ≡ counted_read bs most → length cs ≤ most
 unfolding counted_read
 read_few bs most cs rest e =
-    let n = bind_ok (number_at w16 bs) (λ n. cond (ltb most n.0) (Err NoRoom) (circles_read n.0 n.1)) (cs, rest) (sym e) in
-    let g = passed_by (ltb most n.0.0) NoRoom (circles_read n.0.0 n.0.1) (cs, rest) n.2 in
-    omega (arith, circles_count n.0.0 n.0.1 (cs, rest) g.1, ltb-false most n.0.0 g.0)
+    let count = given (number_at w16 bs) (λ n. cond (ltb most n.0) (Err NoRoom) (circles_read n.0 n.1)) (cs, rest) (sym e) in
+    let n = count.value in
+    let g = passed_by (ltb most n.0) NoRoom (circles_read n.0 n.1) (cs, rest) count.gives in
+    omega (arith, circles_count n.0 n.1 (cs, rest) g.1, ltb-false most n.0 g.0)

@@ -6,8 +6,8 @@ use Prim.Native.Nat.{ℕ, zero, suc, ◌+◌, ◌-◌, ◌*◌, ◌/◌, ◌%◌
 use native.Mathlib.Omega.{arith}
 use lib.Count.{ones, ones_step}
 use lib.ListN.{length, length-append, replicate, length-replicate}
-use lib.Ieee.{Float, binary64, to_bits, of_bits}
-use Rattle.inscribed.specs.Store.{width, most_slots, numbers_of, circle_at, circles_from, circles_of}
+use lib.Ieee.{Float, binary64, to_bits, of_bits, lt}
+use Rattle.inscribed.specs.Store.{width, most_slots, numbers_of, circle_at, circles_from, circles_of, bad_circle, any_bad}
 use Rattle.inscribed.specs.declared.Inscribed.{Inscribed}
 use Rattle.points.specs.Numbers.{f1}
 use Rattle.record.specs.Record.{short_bytes, word_bytes, is_zero, map_of, fields_of, circle_record, circles_record, record_of, standing_bits}
@@ -63,7 +63,7 @@ record_length cs = omega (arith, length-append (short_bytes (length cs)) (circle
 pub longest_record : (cs : List Inscribed) → length cs ≤ most_slots → length (record_of cs) ≤ 75778
 longest_record cs h = omega (arith, record_length cs, (circles_length cs).1, h)
 
--- and it is reached: by 1,024 circles none of whose numbers is +0
+-- and it is reached: by 1,024 good circles none of whose numbers is +0
 unit_circle : Inscribed
 unit_circle = record { cx = f1; cy = f1; r = f1; p0x = f1; p0y = f1; p1x = f1; p1y = f1; l0 = f1; l1 = f1 }
 
@@ -76,11 +76,20 @@ unfolding standing_bits
 units_ones zero = omega arith
 units_ones (suc n) = omega (arith, unit_ones, units_ones n)
 
-pub longest_reached : (cs : List Inscribed) × (length cs ≡ most_slots) × (length (record_of cs) ≡ 75778)
+unit_good : bad_circle unit_circle ≡ false
+unfolding unit_circle bad_circle of_bits lt
+unit_good = refl
+
+units_good : (n : ℕ) → any_bad (replicate n unit_circle) ≡ false
+unfolding any_bad
+units_good zero = refl
+units_good (suc n) = rw (unit_good, units_good n) refl
+
+pub longest_reached : (cs : List Inscribed) × (length cs ≡ most_slots) × (any_bad cs ≡ false) × (length (record_of cs) ≡ 75778)
 longest_reached =
     let cs = replicate most_slots unit_circle in
     let long : length cs ≡ most_slots = length-replicate most_slots unit_circle in
-    (cs, long, omega (arith, record_length cs, long, units_ones most_slots))
+    (cs, long, units_good most_slots, omega (arith, record_length cs, long, units_ones most_slots))
 
 -- ---- circles from one of a store on: the first, then the others
 

@@ -4,7 +4,6 @@ pub mod Placed
 pub mod Lengths
 pub mod Loops
 pub mod Circles
-pub mod Steps
 pub mod Entries
 pub mod Written
 pub mod Read

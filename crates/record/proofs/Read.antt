@@ -8,11 +8,11 @@ use native.Mathlib.Nat.{pow-suc}
 use borrow.Author.Tests.{eqb-true, eqb-false, ltb-false, not-false}
 use lib.Dec.{T, eqb, ltb}
 use lib.ListN.{length, get_or, take, drop, length-take, take-append-drop}
-use lib.Ieee.{Float, binary64, nan, inf, fin, fits, of_bits, to_bits, is_nan, lt}
+use lib.Ieee.{Float, binary64, nan, fits, of_bits, to_bits, is_nan, lt}
 use lib.Ieee.Scale.{finite}
 use lib.Ieee.Bits.{to_bits-of_bits, of_bits-fits}
 use Rattle.std.specs.Prelude.{Ok, Err}
-use Rattle.std.specs.Int.{w16, w64, to_le_bytes, from_le_bytes}
+use Rattle.std.specs.Int.{Width, w16, w64, byte_len, to_le_bytes, from_le_bytes}
 use Rattle.std.proofs.lemmas.Bool.{cases_lt}
 use Rattle.std.proofs.lemmas.List.{get_or-drop, get_or-take, get_or_past, nil_from_length}
 use Rattle.std.proofs.lemmas.Nat.{le_bytes_2, le_bytes_8}
@@ -23,7 +23,8 @@ use Rattle.points.specs.Numbers.{f0}
 use Rattle.inscribed.specs.Store.{width, numbers_of, circle_from, bad_length, bad_circle, any_bad}
 use Rattle.inscribed.specs.declared.Inscribed.{Inscribed}
 use Rattle.record.specs.Record.{short_bytes, word_bytes, is_zero, map_of, fields_of, circle_record, circles_record, record_of, number_at, is_length, bad_field, number_of_field, field_at, number_from, numbers_at, most_map, circle_read, circles_read, counted_read, all_read, read_record}
-use Rattle.record.proofs.Steps.{bind_ok, passed_by, passed_on, ok_is}
+use Rattle.errors.proofs.Laws.{given, passed_by, passed_on, ok_is}
+use Rattle.record.proofs.Words.{nan_bad}
 use Rattle.record.proofs.Written.{Good, Fits, AllFit, none, more}
 
 -- ---- bytes
@@ -49,42 +50,45 @@ pub record Takes (bs text rest : List ℕ) : Type 0 where
 takes-then : (a x b y c : List ℕ) → Takes a x b → Takes b y c → Takes a (x ++ y) c
 takes-then a x b y c p q = record { parts = append_assoc x y c ∙ ap (λ (t : List ℕ). x ++ t) q.parts ∙ p.parts; rest_fits = q.rest_fits }
 
+-- the number at the front, of any width
+record Front (w : Width) (bs : List ℕ) (n : ℕ) (rest : List ℕ) : Type 0 where
+  long : byte_len w ≤ length bs
+  value : from_le_bytes w (take (byte_len w) bs) ≡ n
+  behind : drop (byte_len w) bs ≡ rest
+
+front : (w : Width) (bs : List ℕ) (n : ℕ) (rest : List ℕ) → number_at w bs ≡ Ok (n, rest) → Front w bs n rest
+front w bs n rest e =
+    let g = passed_by (ltb (length bs) (byte_len w)) RecordLength (Ok (from_le_bytes w (take (byte_len w) bs), drop (byte_len w) bs)) (n, rest) e in
+    let is = ok_is (from_le_bytes w (take (byte_len w) bs), drop (byte_len w) bs) (n, rest) g.1 in
+    record { long = ltb-false (length bs) (byte_len w) g.0; value = ap (λ (p : ℕ × List ℕ). p.0) is; behind = ap (λ (p : ℕ × List ℕ). p.1) is }
+
+front_takes : (w : Width) (bs : List ℕ) (n : ℕ) (rest : List ℕ) → IsBytes bs → ((xs : List ℕ) (m : ℕ) → length xs ≡ byte_len w → IsBytes xs → m ≡ from_le_bytes w xs → to_le_bytes w m ≡ xs)
+    → Front w bs n rest → Takes bs (to_le_bytes w n) rest
+front_takes w bs n rest fits kept f =
+    let k = byte_len w in
+    let bytes : to_le_bytes w n ≡ take k bs = kept (take k bs) n (omega (arith, length-take k bs, f.long)) (bytes-take k bs fits) (sym f.value) in
+    record { parts = ap (λ (t : List ℕ). t ++ rest) bytes ∙ ap (λ (t : List ℕ). take k bs ++ t) (sym f.behind) ∙ take-append-drop k bs; rest_fits = subst IsBytes f.behind (bytes-drop k bs fits) }
+
 short_takes : (bs : List ℕ) (n : ℕ) (rest : List ℕ) → IsBytes bs → number_at w16 bs ≡ Ok (n, rest) → Takes bs (short_bytes n) rest
 unfolding short_bytes
-short_takes bs n rest fits e =
-    let g = passed_by (ltb (length bs) 2) RecordLength (Ok (from_le_bytes w16 (take 2 bs), drop 2 bs)) (n, rest) e in
-    let is = ok_is (from_le_bytes w16 (take 2 bs), drop 2 bs) (n, rest) g.1 in
-    let long : 2 ≤ length bs = ltb-false (length bs) 2 g.0 in
-    let front : to_le_bytes w16 n ≡ take 2 bs = le_bytes_2 (take 2 bs) n (omega (arith, length-take 2 bs, long)) (bytes-take 2 bs fits) (sym (ap (λ (p : ℕ × List ℕ). p.0) is)) in
-    let behind : drop 2 bs ≡ rest = ap (λ (p : ℕ × List ℕ). p.1) is in
-    record { parts = ap (λ (t : List ℕ). t ++ rest) front ∙ ap (λ (t : List ℕ). take 2 bs ++ t) (sym behind) ∙ take-append-drop 2 bs; rest_fits = subst IsBytes behind (bytes-drop 2 bs fits) }
+short_takes bs n rest fits e = front_takes w16 bs n rest fits le_bytes_2 (front w16 bs n rest e)
 
 word_takes : (bs : List ℕ) (n : ℕ) (rest : List ℕ) → IsBytes bs → number_at w64 bs ≡ Ok (n, rest) → Takes bs (word_bytes n) rest × (n < 2 ^ 64)
 unfolding word_bytes
 word_takes bs n rest fits e =
-    let g = passed_by (ltb (length bs) 8) RecordLength (Ok (from_le_bytes w64 (take 8 bs), drop 8 bs)) (n, rest) e in
-    let is = ok_is (from_le_bytes w64 (take 8 bs), drop 8 bs) (n, rest) g.1 in
-    let long : 8 ≤ length bs = ltb-false (length bs) 8 g.0 in
-    let value : from_le_bytes w64 (take 8 bs) ≡ n = ap (λ (p : ℕ × List ℕ). p.0) is in
-    let front : to_le_bytes w64 n ≡ take 8 bs = le_bytes_8 (take 8 bs) n (omega (arith, length-take 8 bs, long)) (bytes-take 8 bs fits) (sym value) in
-    let behind : drop 8 bs ≡ rest = ap (λ (p : ℕ × List ℕ). p.1) is in
-    let b = bytes-take 8 bs fits in (
-      record { parts = ap (λ (t : List ℕ). t ++ rest) front ∙ ap (λ (t : List ℕ). take 8 bs ++ t) (sym behind) ∙ take-append-drop 8 bs; rest_fits = subst IsBytes behind (bytes-drop 8 bs fits) },
-      subst (λ (m : ℕ). m < 2 ^ 64) value (omega (arith, b 0, b 1, b 2, b 3, b 4, b 5, b 6, b 7)),
-    )
+    let f = front w64 bs n rest e in
+    let b = bytes-take 8 bs fits in
+    (front_takes w64 bs n rest fits le_bytes_8 f, subst (λ (m : ℕ). m < 2 ^ 64) f.value (omega (arith, b 0, b 1, b 2, b 3, b 4, b 5, b 6, b 7)))
 
 -- ---- a field
 
 -- a number that passed the test of 2 is no NaN
 good_number : (i : ℕ) (x : Float) → bad_field i x ≡ false → T (not (is_nan x))
-unfolding is_nan
-good_number i nan h = absurd (go (is_length i) h)
+good_number i x h = go (is_nan x) refl
   where
-    go : (b : Bool) → cond b (bad_length nan) (not (finite nan)) ≡ false → ⊥
-    go true e = absurd (true≢false e)
-    go false e = absurd (true≢false e)
-good_number i (inf s) h = tt
-good_number i (fin s m e) h = tt
+    go : (b : Bool) → is_nan x ≡ b → T (not b)
+    go true e = absurd (true≢false (sym (nan_bad i x e) ∙ h))
+    go false e = tt
 
 nonzero : (x : Float) (n : ℕ) → to_bits binary64 x ≡ n → eqb n 0 ≡ false → is_zero x ≡ false
 unfolding is_zero
@@ -93,17 +97,19 @@ nonzero x n e h = rw e h
 field_takes : (i : ℕ) (bs : List ℕ) (y : Float × List ℕ) → IsBytes bs → field_at i bs ≡ Ok y → Takes bs (word_bytes (to_bits binary64 y.0)) y.1 × (is_zero y.0 ≡ false) × T (fits binary64 y.0) × (bad_field i y.0 ≡ false)
 unfolding field_at number_of_field
 field_takes i bs y b e =
-    let w = bind_ok (number_at w64 bs) (λ w. number_of_field i w.0 >>= λ x. Ok (x, w.1)) y e in
-    let n = w.0.0 in
-    let t = word_takes bs n w.0.1 b w.1 in
-    let x = bind_ok (number_of_field i n) (λ x. Ok (x, w.0.1)) y w.2 in
-    let z = passed_by (eqb n 0) RecordMap (cond (bad_field i (of_bits binary64 n)) (Err BadNumber) (Ok (of_bits binary64 n))) x.0 x.1 in
-    let g = passed_by (bad_field i (of_bits binary64 n)) BadNumber (Ok (of_bits binary64 n)) x.0 z.1 in
-    let is : of_bits binary64 n ≡ x.0 = ok_is (of_bits binary64 n) x.0 g.1 in
+    let word = given (number_at w64 bs) (λ w. number_of_field i w.0 >>= λ x. Ok (x, w.1)) y e in
+    let n = word.value.0 in
+    let rest = word.value.1 in
+    let t = word_takes bs n rest b word.is in
+    let number = given (number_of_field i n) (λ x. Ok (x, rest)) y word.gives in
+    let x = number.value in
+    let z = passed_by (eqb n 0) RecordMap (cond (bad_field i (of_bits binary64 n)) (Err BadNumber) (Ok (of_bits binary64 n))) x number.is in
+    let g = passed_by (bad_field i (of_bits binary64 n)) BadNumber (Ok (of_bits binary64 n)) x z.1 in
+    let is : of_bits binary64 n ≡ x = ok_is (of_bits binary64 n) x g.1 in
     let bits : to_bits binary64 (of_bits binary64 n) ≡ n = to_bits-of_bits binary64 n t.1 (good_number i (of_bits binary64 n) g.0) in
-    let same : to_bits binary64 x.0 ≡ n = ap (λ (v : Float). to_bits binary64 v) (sym is) ∙ bits in
-    subst (λ (p : Float × List ℕ). Takes bs (word_bytes (to_bits binary64 p.0)) p.1 × (is_zero p.0 ≡ false) × T (fits binary64 p.0) × (bad_field i p.0 ≡ false)) (ok_is (x.0, w.0.1) y x.2)
-    (rw same t.0, nonzero x.0 n same z.0, subst (λ (v : Float). T (fits binary64 v)) is (of_bits-fits binary64 n), subst (λ (v : Float). bad_field i v ≡ false) is g.0)
+    let same : to_bits binary64 x ≡ n = ap (λ (v : Float). to_bits binary64 v) (sym is) ∙ bits in
+    subst (λ (p : Float × List ℕ). Takes bs (word_bytes (to_bits binary64 p.0)) p.1 × (is_zero p.0 ≡ false) × T (fits binary64 p.0) × (bad_field i p.0 ≡ false)) (ok_is (x, rest) y number.gives)
+    (rw same t.0, nonzero x n same z.0, subst (λ (v : Float). T (fits binary64 v)) is (of_bits-fits binary64 n), subst (λ (v : Float). bad_field i v ≡ false) is g.0)
 
 -- ---- the numbers of a circle
 
@@ -177,11 +183,13 @@ numbers_take zero i map bs y b h e =
     let z : 0 ≡ map = omega (arith, h) in
     subst (λ (p : List Float × List ℕ). Numbers 0 i map bs p) (ok_is ([], bs) y e) (record { takes = record { parts = refl; rest_fits = b }; map_is = z; count = refl; good = tt })
 numbers_take (suc n) i map bs y b h e =
-    let x = bind_ok (number_from i map bs) (λ x. numbers_at n (suc i) (map / 2) x.1 >>= λ xs. Ok (x.0 ∷ xs.0, xs.1)) y e in
-    let xs = bind_ok (numbers_at n (suc i) (map / 2) x.0.1) (λ xs. Ok (x.0.0 ∷ xs.0, xs.1)) y x.2 in
+    let one = given (number_from i map bs) (λ x. numbers_at n (suc i) (map / 2) x.1 >>= λ xs. Ok (x.0 ∷ xs.0, xs.1)) y e in
+    let x = one.value in
+    let others = given (numbers_at n (suc i) (map / 2) x.1) (λ xs. Ok (x.0 ∷ xs.0, xs.1)) y one.gives in
+    let xs = others.value in
     let low = half_below map (2 ^ n) (rw (pow-suc 2 n) at h) in
-    subst (λ (p : List Float × List ℕ). Numbers (suc n) i map bs p) (ok_is (x.0.0 ∷ xs.0.0, xs.0.1) y xs.2)
-    (number_first n i map bs x.0 xs.0 b x.1 (λ bx. numbers_take n (suc i) (map / 2) x.0.1 xs.0 bx low xs.1))
+    subst (λ (p : List Float × List ℕ). Numbers (suc n) i map bs p) (ok_is (x.0 ∷ xs.0, xs.1) y others.gives)
+    (number_first n i map bs x xs b one.is (λ bx. numbers_take n (suc i) (map / 2) x.1 xs bx low others.is))
 
 -- ---- a circle
 
@@ -230,12 +238,14 @@ circle_is bs x y e c = subst (λ (p : Inscribed × List ℕ). Circle bs p) e c
 circle_takes : (bs : List ℕ) (y : Inscribed × List ℕ) → IsBytes bs → circle_read bs ≡ Ok y → Circle bs y
 unfolding circle_read
 circle_takes bs y b e =
-    let map = bind_ok (number_at w16 bs) (λ map. cond (ltb most_map map.0) (Err RecordMap) (numbers_at width 0 map.0 map.1 >>= λ xs. Ok (circle_from xs.0 0, xs.1))) y e in
-    let t = short_takes bs map.0.0 map.0.1 b map.1 in
-    let small = passed_by (ltb most_map map.0.0) RecordMap (numbers_at width 0 map.0.0 map.0.1 >>= λ xs. Ok (circle_from xs.0 0, xs.1)) y map.2 in
-    let xs = bind_ok (numbers_at width 0 map.0.0 map.0.1) (λ xs. Ok (circle_from xs.0 0, xs.1)) y small.1 in
-    let n = numbers_take width 0 map.0.0 map.0.1 xs.0 t.rest_fits (omega (arith, ltb-false most_map map.0.0 small.0)) xs.1 in
-    circle_is bs (circle_from xs.0.0 0, xs.0.1) y (ok_is (circle_from xs.0.0 0, xs.0.1) y xs.2) (circle_made bs map.0 xs.0 t n)
+    let first = given (number_at w16 bs) (λ map. cond (ltb most_map map.0) (Err RecordMap) (numbers_at width 0 map.0 map.1 >>= λ xs. Ok (circle_from xs.0 0, xs.1))) y e in
+    let map = first.value in
+    let t = short_takes bs map.0 map.1 b first.is in
+    let small = passed_by (ltb most_map map.0) RecordMap (numbers_at width 0 map.0 map.1 >>= λ xs. Ok (circle_from xs.0 0, xs.1)) y first.gives in
+    let numbers = given (numbers_at width 0 map.0 map.1) (λ xs. Ok (circle_from xs.0 0, xs.1)) y small.1 in
+    let xs = numbers.value in
+    let n = numbers_take width 0 map.0 map.1 xs t.rest_fits (omega (arith, ltb-false most_map map.0 small.0)) numbers.is in
+    circle_is bs (circle_from xs.0 0, xs.1) y (ok_is (circle_from xs.0 0, xs.1) y numbers.gives) (circle_made bs map xs t n)
 
 -- ---- all circles
 
@@ -259,11 +269,13 @@ circles_take : (n : ℕ) (bs : List ℕ) (y : List Inscribed × List ℕ) → Is
 unfolding circles_read circles_record any_bad
 circles_take zero bs y b e = subst (λ (p : List Inscribed × List ℕ). Circles 0 bs p) (ok_is ([], bs) y e) (record { takes = record { parts = refl; rest_fits = b }; count = refl; good = refl; fits = none })
 circles_take (suc n) bs y b e =
-    let c = bind_ok (circle_read bs) (λ c. circles_read n c.1 >>= λ cs. Ok (c.0 ∷ cs.0, cs.1)) y e in
-    let cs = bind_ok (circles_read n c.0.1) (λ cs. Ok (c.0.0 ∷ cs.0, cs.1)) y c.2 in
-    let one = circle_takes bs c.0 b c.1 in
-    subst (λ (p : List Inscribed × List ℕ). Circles (suc n) bs p) (ok_is (c.0.0 ∷ cs.0.0, cs.0.1) y cs.2)
-    (circle_first n bs c.0 cs.0 one (circles_take n c.0.1 cs.0 one.takes.rest_fits cs.1))
+    let first = given (circle_read bs) (λ c. circles_read n c.1 >>= λ cs. Ok (c.0 ∷ cs.0, cs.1)) y e in
+    let c = first.value in
+    let others = given (circles_read n c.1) (λ cs. Ok (c.0 ∷ cs.0, cs.1)) y first.gives in
+    let cs = others.value in
+    let one = circle_takes bs c b first.is in
+    subst (λ (p : List Inscribed × List ℕ). Circles (suc n) bs p) (ok_is (c.0 ∷ cs.0, cs.1) y others.gives)
+    (circle_first n bs c cs one (circles_take n c.1 cs one.takes.rest_fits others.is))
 
 -- ---- the record
 
@@ -283,10 +295,12 @@ accepted_made bs most n x t few k ended =
 pub accepted : (bs : List ℕ) (most : ℕ) (cs : List Inscribed) → IsBytes bs → read_record bs most ≡ Ok cs → Accepted bs most cs
 unfolding read_record counted_read
 accepted bs most cs b e =
-    let x = bind_ok (counted_read bs most) all_read cs e in
-    let n = bind_ok (number_at w16 bs) (λ n. cond (ltb most n.0) (Err NoRoom) (circles_read n.0 n.1)) x.0 x.1 in
-    let t = short_takes bs n.0.0 n.0.1 b n.1 in
-    let g = passed_by (ltb most n.0.0) NoRoom (circles_read n.0.0 n.0.1) x.0 n.2 in
-    let h = passed_on (eqb (length x.0.1) 0) RecordLength (Ok x.0.0) cs x.2 in
-    subst (λ (p : List Inscribed). Accepted bs most p) (ok_is x.0.0 cs h.1)
-    (accepted_made bs most n.0 x.0 t (ltb-false most n.0.0 g.0) (circles_take n.0.0 n.0.1 x.0 t.rest_fits g.1) (nil_from_length x.0.1 (eqb-true (length x.0.1) 0 h.0)))
+    let counted = given (counted_read bs most) all_read cs e in
+    let x = counted.value in
+    let count = given (number_at w16 bs) (λ n. cond (ltb most n.0) (Err NoRoom) (circles_read n.0 n.1)) x counted.is in
+    let n = count.value in
+    let t = short_takes bs n.0 n.1 b count.is in
+    let g = passed_by (ltb most n.0) NoRoom (circles_read n.0 n.1) x count.gives in
+    let h = passed_on (eqb (length x.1) 0) RecordLength (Ok x.0) cs counted.gives in
+    subst (λ (p : List Inscribed). Accepted bs most p) (ok_is x.0 cs h.1)
+    (accepted_made bs most n x t (ltb-false most n.0 g.0) (circles_take n.0 n.1 x t.rest_fits g.1) (nil_from_length x.1 (eqb-true (length x.1) 0 h.0)))

@@ -1,5 +1,5 @@
 -- Both round trips, of the two entry points' definitions. Assumes nothing.
-use mathlib.Core.Path.{◌≡◌, refl}
+use mathlib.Core.Path.{◌≡◌, refl, subst}
 use mathlib.Core.Bool.{Bool, false, ◌||◌}
 use mathlib.Core.List.{List, [], ◌∷◌}
 use Prim.Native.Nat.{ℕ, zero, suc, ◌+◌, ◌*◌, ◌≤◌}
@@ -11,13 +11,14 @@ use lib.Seq.{take_at}
 use lib.Ieee.{Float, binary64, nan, fits}
 use Rattle.std.specs.Prelude.{Ok, min}
 use Rattle.errors.specs.declared.Refusal.TheVariants.{BadNumber, NoRoom}
+use Rattle.errors.proofs.Laws.{given, ok_is}
 use Rattle.curve2.specs.Entry.{tested}
 use Rattle.curve2.proofs.Laws.{none_bad, or_left}
 use Rattle.inscribed.specs.Store.{width, most_slots, slots, numbers_of, circle_from, circle_at, circles_from, circles_of, all_numbers, stored, any_bad, bad_store, bad_store_count}
 use Rattle.inscribed.specs.declared.Inscribed.{Inscribed}
 use Rattle.inscribed.proofs.StoreLaws.{length-circles, length_all, numbers_of-circles, circles_of-stored, count_fits}
 use Rattle.record.specs.Record.{record_of, write_entry, write_record, read_record, store_after}
-use Rattle.record.proofs.Steps.{bind_ok, ok_is}
+use Rattle.record.proofs.Lengths.{longest_record, longest_reached}
 use Rattle.record.proofs.Written.{Fits, AllFit, none, more, record_back}
 use Rattle.record.proofs.Read.{IsBytes, accepted}
 
@@ -51,7 +52,7 @@ module _ (ns : List Float) (count room : ℕ) (bs : List ℕ) (e : write_record 
 
   written : (u : Unit {0}) × (write_entry ns count room ≡ Ok u) × (record_of cs ≡ bs)
   unfolding write_record
-  written = let w = bind_ok (write_entry ns count room) (λ passed. Ok (record_of cs)) bs e in (w.0, w.1, ok_is (record_of cs) bs w.2)
+  written = let w = given (write_entry ns count room) (λ passed. Ok (record_of cs)) bs e in (w.value, w.is, ok_is (record_of cs) bs w.gives)
 
   tests : (bad_store_count ns count || ltb room (length (record_of cs)) ≡ false) × (bad_store ns count ≡ false)
   unfolding write_entry
@@ -78,6 +79,12 @@ module _ (ns : List Float) (count room : ℕ) (bs : List ℕ) (e : write_record 
       let bounds = (count_fits ns count (or_left _ _ tests.0)).0 in
       let numbers : length (all_numbers cs) ≡ width * count = omega (arith, length_all cs, long) in
       rw (back, take_at (all_numbers cs) (drop (width * length cs) old) (width * count) numbers) (numbers_of-circles ns count (omega (arith, bounds)))
+
+  -- "The longest record is 75,778 bytes."
+  pub written_short : length bs ≤ 75778
+  written_short =
+      let h = ltb-false (slots ns) count (or_left _ _ tests.0) in
+      rw (← written.2) (longest_record cs (omega (arith, length-circles ns 0 count, h)))
 
 -- ---- every accepted string
 
@@ -115,3 +122,14 @@ written_read bs old cs room b e fit =
     let long = stored_length cs old (omega (arith, a.few)) in
     let held : slots (stored cs old) ≡ slots old = rw long refl in
     rw (e, ← a.string) (write_held (stored cs old) cs room (circles_of-stored cs old) (rw held a.few) a.good (rw a.string fit))
+
+-- the writer gives the longest record
+pub longest_written : (ns : List Float) × (bs : List ℕ) × (write_record ns most_slots 75778 ≡ Ok bs) × (length bs ≡ 75778)
+longest_written =
+    let l = longest_reached in
+    let cs = l.0 in
+    let numbers = length_all cs in
+    let ns = stored cs (all_numbers cs) in
+    let held : length ns ≡ length (all_numbers cs) = stored_length cs (all_numbers cs) (omega (arith, numbers)) in
+    let wrote = write_held ns cs 75778 (circles_of-stored cs (all_numbers cs)) (omega (arith, held, numbers, l.1)) l.2 (omega (arith, l.3)) in
+    (ns, record_of cs, subst (λ (n : ℕ). write_record ns n 75778 ≡ Ok (record_of cs)) l.1 wrote, l.3)

@@ -29,7 +29,7 @@ nan_word nan h = refl
 nan_word (inf s) h = absurd (true≢false (sym h))
 nan_word (fin s m e) h = absurd (true≢false (sym h))
 
-nan_bad : (i : ℕ) (x : Float) → is_nan x ≡ true → bad_field i x ≡ true
+pub nan_bad : (i : ℕ) (x : Float) → is_nan x ≡ true → bad_field i x ≡ true
 unfolding is_nan
 nan_bad i nan h = go (is_length i)
   where

@@ -11,7 +11,7 @@ use lib.Ieee.{Float, binary64, nan, fits, of_bits, to_bits}
 use lib.Ieee.Scale.{finite}
 use lib.Ieee.Bits.{of_bits-to_bits, to_bits-lt}
 use Rattle.std.specs.Prelude.{Ok}
-use Rattle.std.specs.Int.{w16, w64, from_le_bytes}
+use Rattle.std.specs.Int.{Width, w16, w64, byte_len, to_le_bytes, from_le_bytes}
 use Rattle.std.proofs.lemmas.List.{take_at, drop_at}
 use Rattle.std.proofs.lemmas.Nat.{from_le_bytes-to_le_bytes_2, from_le_bytes-to_le_bytes_8}
 use Rattle.points.specs.Numbers.{f0}
@@ -19,28 +19,23 @@ use Rattle.curve2.proofs.Laws.{or_left, or_right}
 use Rattle.inscribed.specs.Store.{width, most_slots, numbers_of, circle_from, bad_length, bad_circle, any_bad}
 use Rattle.inscribed.specs.declared.Inscribed.{Inscribed}
 use Rattle.record.specs.Record.{short_bytes, word_bytes, is_zero, map_of, fields_of, circle_record, circles_record, record_of, number_at, bad_field, number_of_field, field_at, number_from, numbers_at, most_map, circle_read, circles_read, counted_read, read_record}
-use Rattle.record.proofs.Lengths.{short_length, word_length}
 use Rattle.record.proofs.Words.{map_below}
 
 -- ---- counts, maps and fields
 
-short_value : (n : ℕ) → n < 65536 → from_le_bytes w16 (short_bytes n) ≡ n
+-- a number of any width, in front of what follows
+number_back : (w : Width) (n : ℕ) (rest : List ℕ) → length (to_le_bytes w n) ≡ byte_len w → from_le_bytes w (to_le_bytes w n) ≡ n → number_at w (to_le_bytes w n ++ rest) ≡ Ok (n, rest)
+number_back w n rest long value =
+    let enough : ltb (length (to_le_bytes w n ++ rest)) (byte_len w) ≡ false = le-ltb _ _ (omega (arith, length-append (to_le_bytes w n) rest, long)) in
+    rw (enough, take_at (to_le_bytes w n) rest (byte_len w) long, drop_at (to_le_bytes w n) rest (byte_len w) long) (ap (λ (k : ℕ). Ok (k, rest)) value)
+
+short_back : (n : ℕ) (rest : List ℕ) → n < 65536 → number_at w16 (short_bytes n ++ rest) ≡ Ok (n, rest)
 unfolding short_bytes
-short_value n h = from_le_bytes-to_le_bytes_2 n h
+short_back n rest h = number_back w16 n rest refl (from_le_bytes-to_le_bytes_2 n h)
 
-word_value : (n : ℕ) → n < 2 ^ 64 → from_le_bytes w64 (word_bytes n) ≡ n
+word_back : (n : ℕ) (rest : List ℕ) → n < 2 ^ 64 → number_at w64 (word_bytes n ++ rest) ≡ Ok (n, rest)
 unfolding word_bytes
-word_value n h = from_le_bytes-to_le_bytes_8 n h
-
-pub short_back : (n : ℕ) (rest : List ℕ) → n < 65536 → number_at w16 (short_bytes n ++ rest) ≡ Ok (n, rest)
-short_back n rest h =
-    let long : ltb (length (short_bytes n ++ rest)) 2 ≡ false = le-ltb _ _ (omega (arith, length-append (short_bytes n) rest, short_length n)) in
-    rw (long, take_at (short_bytes n) rest 2 (short_length n), drop_at (short_bytes n) rest 2 (short_length n)) (ap (λ (k : ℕ). Ok (k, rest)) (short_value n h))
-
-pub word_back : (n : ℕ) (rest : List ℕ) → n < 2 ^ 64 → number_at w64 (word_bytes n ++ rest) ≡ Ok (n, rest)
-word_back n rest h =
-    let long : ltb (length (word_bytes n ++ rest)) 8 ≡ false = le-ltb _ _ (omega (arith, length-append (word_bytes n) rest, word_length n)) in
-    rw (long, take_at (word_bytes n) rest 8 (word_length n), drop_at (word_bytes n) rest 8 (word_length n)) (ap (λ (k : ℕ). Ok (k, rest)) (word_value n h))
+word_back n rest h = number_back w64 n rest refl (from_le_bytes-to_le_bytes_8 n h)
 
 -- numbers from place i of a circle on that pass the test of 2, and are numbers of 64 bits
 abbrev pub Good : ℕ → List Float → Type 0

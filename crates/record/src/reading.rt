@@ -9,7 +9,7 @@ use arrayvec::ArrayVec;
 use errors::{Finite, Refusal};
 use inscribed::Inscribed;
 use inscribed::checked::{circle_at, put_circle};
-use inscribed::store::{MOST_SLOTS, WIDTH};
+use inscribed::store::{MOST_SLOTS, WIDTH, is_bad_length};
 
 // The greatest map: a bit for each number of a circle.
 const MOST_MAP: u16 = (1 << WIDTH) - 1;
@@ -24,25 +24,20 @@ const INFINITE_BITS: u64 = 0x7ff0_0000_0000_0000;
 fn read_short(bytes: &[u8]) -> Result<(u16, &[u8]), Refusal>
     ensures { seen result ≡ number_at w16 bytes.now }
 {
-    if bytes.len() < 2 {
-        return Err(Refusal::RecordLength);
+    match bytes.split_first_chunk() {
+        Some((front, rest)) => Ok((u16::from_le_bytes(*front), rest)),
+        None => Err(Refusal::RecordLength),
     }
-    let (front, rest) = bytes.split_at(2);
-    Ok((u16::from_le_bytes([front[0], front[1]]), rest))
 }
 
 // The bits of a number, and the bytes behind them: 24 where they are cut off.
 fn read_word(bytes: &[u8]) -> Result<(u64, &[u8]), Refusal>
     ensures { seen result ≡ number_at w64 bytes.now }
 {
-    if bytes.len() < 8 {
-        return Err(Refusal::RecordLength);
+    match bytes.split_first_chunk() {
+        Some((front, rest)) => Ok((u64::from_le_bytes(*front), rest)),
+        None => Err(Refusal::RecordLength),
     }
-    let (front, rest) = bytes.split_at(8);
-    let word = u64::from_le_bytes([
-        front[0], front[1], front[2], front[3], front[4], front[5], front[6], front[7],
-    ]);
-    Ok((word, rest))
 }
 
 // Whether a number at place i of a circle is its radius or a length along.
@@ -56,7 +51,11 @@ fn is_length(i: usize) -> bool
 fn is_bad_field(i: usize, x: f64) -> bool
     ensures { result ≡ bad_field i x }
 {
-    !x.all_finite() || (is_length(i) && x < 0.0)
+    if is_length(i) {
+        is_bad_length(x)
+    } else {
+        !x.all_finite()
+    }
 }
 
 // The number at place i of a circle, of its bits: 25 for no bit, 2 for a bad number.
