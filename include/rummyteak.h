@@ -258,8 +258,8 @@ uint32_t rummyteak_write_record(const double *store, size_t store_len, size_t co
                                 size_t *written);
 
 /* A record's circles, into the store from its start on: how many they are. The bytes are all of the record and nothing else.
- * From the front: 24 where a count, a map or a field is cut off, 4 for a count above the store's slots, 25 for a map or a field
- * that is all zero, 2 for a bad number; bytes left over are 24, last. The store changes only where all of it was read. */
+ * From the front: 24 where a count, a map or a field is cut off, 4 for a count above the store's slots, 25 for one of bits 9 to
+ * 15 or a field that is all zero, 2 for a bad number; bytes left over are 24, last. The store changes only where all was read. */
 uint32_t rummyteak_read_record(const uint8_t *bytes, size_t bytes_len, double *store, size_t store_len, size_t *count);
 
 /* ---- stored numbers as bytes, eight to a number, into out (as many bytes at least) */
