@@ -18,7 +18,7 @@ use Rattle.runs.proofs.LimitLaws.{Grows, run_holds, units_within}
 use Rattle.inscribed.specs.declared.Inscribed.{Inscribed}
 use Rattle.circles.specs.Trial.{trial}
 use Rattle.halving.specs.Halving.{from_crossing}
-use Rattle.refine.specs.Machine.{State, refining, advancing, stopped, circles_in, End, finished, with_room, after_room, after_trial, measure, refine_step}
+use Rattle.refine.specs.Machine.{most_waiting, State, refining, advancing, stopped, circles_in, End, finished, with_room, after_room, after_trial, measure, refine_step}
 use Rattle.refine.proofs.MoveLaws.{no_goes, no_pays, move_goes, move_pays, move_falls}
 use Rattle.refine.proofs.MachineLaws.{Part, no_more, part_same, part_chain, move_part, Sound, move_sound, Fits, refine-fits-goes, refine-fits-pays}
 use Rattle.advance.specs.Advance.{MarchAhead, done, advance_ray, look_ahead, step_of, tried_line}
@@ -175,7 +175,7 @@ module _ (ns : List Float) (tol : Float) (slots : ℕ) where
   after_refines : (cs : List Inscribed) (b : Inscribed) (ws : List Inscribed) (r : Answer (Option Inscribed)) → Refines (after_trial slots cs b ws r)
   unfolding after_trial with_room
   after_refines cs b ws (Err n) = tt
-  after_refines cs b ws (Ok (Some d)) = go (leb 64 (suc (length ws)))
+  after_refines cs b ws (Ok (Some d)) = go (leb most_waiting (suc (length ws)))
     where
       go : (x : Bool) → Refines (after_room cs b ws (cond x (Err StackFull) (Ok (Some d))))
       go true = tt

@@ -13,7 +13,7 @@ use Rattle.inscribed.specs.Store.{circles_of, stored}
 use Rattle.inscribed.proofs.StoreLaws.{length-circles, stored_longer, circles_of-stored}
 use Rattle.inscribed.specs.declared.Inscribed.{Inscribed}
 use Rattle.refine.specs.declared.Run.{Run}
-use Rattle.gap.specs.Rounds.{Fit, first_progress}
+use Rattle.gap.specs.Rounds.{most_rounds, Fit, first_progress}
 use Rattle.gap.proofs.RoundsLaws.{FitTold, Grown, rounds_grown}
 use Rattle.refine.specs.Report.{listed_run}
 use Rattle.points.specs.declared.Point2.{Point2}
@@ -36,7 +36,7 @@ module _ (ns : List Float) (section_tol tol : Float) (slots limit : ℕ) (front 
   from_grown : (a : Answer Start) → Grown slots ds (fit_from ns tol slots (under_limit limit) ds a)
   unfolding fit_from
   from_grown (Err n) = record { low = omega arith; high = omega (arith, length_ds, fits) }
-  from_grown (Ok s) = rounds_grown ns tol slots limit s.gap 20 (first_progress s.point ds) (omega (arith, length_ds, fits)) (omega arith)
+  from_grown (Ok s) = rounds_grown ns tol slots limit s.gap most_rounds (first_progress s.point ds) (omega (arith, length_ds, fits)) (omega arith)
 
   grown : Grown slots ds whole
   grown = from_grown (fit_start ns section_tol ds)

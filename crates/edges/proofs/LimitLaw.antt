@@ -92,7 +92,7 @@ module _ (limit more : ℕ) (h : limit ≤ more) (ns : List Float) (tol : Float)
   from_larger : (cs : List Inscribed) (a : Answer Start) → ((fit_from ns tol slots few cs a).ending ≡ spent → ⊥) → fit_from ns tol slots many cs a ≡ fit_from ns tol slots few cs a
   unfolding fit_from
   from_larger cs (Err n) f = refl
-  from_larger cs (Ok s) f = rounds-larger s.gap 20 (first_progress s.point cs) f
+  from_larger cs (Ok s) f = rounds-larger s.gap most_rounds (first_progress s.point cs) f
 
   fitted-larger : (section_tol : Float) (front : Bool) (old : List Float) (count : ℕ) → ((fitted ns section_tol tol slots few front old count).ending ≡ spent → ⊥)
       → fitted ns section_tol tol slots many front old count ≡ fitted ns section_tol tol slots few front old count

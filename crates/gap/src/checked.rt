@@ -4,7 +4,7 @@ ghost use Rattle.gap.specs.Gap.{gap_of};
 ghost use Rattle.runs.specs.Run.{under_limit};
 ghost use Rattle.inscribed.specs.Changes.{in_use};
 ghost use Rattle.gap.specs.Code.{Fits};
-ghost use Rattle.gap.specs.Rounds.{rounds, first_progress};
+ghost use Rattle.gap.specs.Rounds.{most_rounds, rounds, first_progress};
 
 use crate::round::Reached;
 use crate::{Gap, round};
@@ -47,7 +47,7 @@ pub fn rounds(
     limit: u32,
 ) -> Run<Point2>
     requires { 2 ≤ circles.old.count }
-    ensures { Fits (rounds section.now.points.now tol circles.old.slots (under_limit limit) gap 20 (first_progress first (in_use circles.old))) circles.old circles.new result }
+    ensures { Fits (rounds section.now.points.now tol circles.old.slots (under_limit limit) gap most_rounds (first_progress first (in_use circles.old))) circles.old circles.new result }
 {
     let mut reached = Reached {
         point: first,

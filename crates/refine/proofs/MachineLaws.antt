@@ -17,7 +17,7 @@ use Rattle.runs.specs.Run.{goes, pays}
 use Rattle.runs.proofs.LimitLaws.{Grows}
 use Rattle.circles.specs.Trial.{trial}
 use Rattle.inscribed.specs.declared.Inscribed.{Inscribed}
-use Rattle.refine.specs.Machine.{State, refining, advancing, stopped, circles_in, with_room, after_room, after_trial, refine_move, refine_step}
+use Rattle.refine.specs.Machine.{most_waiting, State, refining, advancing, stopped, circles_in, with_room, after_room, after_trial, refine_move, refine_step}
 use Rattle.refine.proofs.MoveLaws.{no_goes, no_pays, move_goes, move_pays}
 use Rattle.refine.specs.Law.{Settled}
 use Rattle.errors.specs.declared.Refusal.TheVariants.{StackFull, StoreFull}
@@ -40,7 +40,7 @@ part_chain s t v p q = (p.0 ++ q.0, q.1 ∙ rw p.1 (append_assoc (circles_in s) 
 pub after_part : (slots : ℕ) (cs : List Inscribed) (b : Inscribed) (ws : List Inscribed) (r : Answer (Option Inscribed)) → Part (refining cs (b ∷ ws)) (after_trial slots cs b ws r)
 unfolding after_trial with_room
 after_part slots cs b ws (Err n) = ([], no_more cs)
-after_part slots cs b ws (Ok (Some d)) = go (leb 64 (suc (length ws)))
+after_part slots cs b ws (Ok (Some d)) = go (leb most_waiting (suc (length ws)))
   where
     go : (x : Bool) → Part (refining cs (b ∷ ws)) (after_room cs b ws (cond x (Err StackFull) (Ok (Some d))))
     go true = ([], no_more cs)
@@ -106,7 +106,7 @@ module _ (ns : List Float) (tol : Float) (k slots : ℕ) where
       → Sound ns tol k (after_trial slots (c ∷ cs) b ws r)
   unfolding after_trial with_room
   after_sound c cs b ws (Err n) e h = record { held = h.held; settled = h.settled }
-  after_sound c cs b ws (Ok (Some d)) e h = go (leb 64 (suc (length ws)))
+  after_sound c cs b ws (Ok (Some d)) e h = go (leb most_waiting (suc (length ws)))
     where
       go : (x : Bool) → Sound ns tol k (after_room (c ∷ cs) b ws (cond x (Err StackFull) (Ok (Some d))))
       go true = record { held = h.held; settled = h.settled }
@@ -174,7 +174,7 @@ module _ (ns : List Float) (tol : Float) (k slots : ℕ) (o : Inscribed) where
       → Offered k o (after_trial slots (c ∷ cs) b ws r)
   unfolding after_trial with_room
   after_offered c cs b ws (Err n) h e = tt
-  after_offered c cs b ws (Ok (Some d)) h e = go (leb 64 (suc (length ws))) e
+  after_offered c cs b ws (Ok (Some d)) h e = go (leb most_waiting (suc (length ws))) e
     where
       go : (x : Bool) → Offered k o (refining (c ∷ cs) (b ∷ ws)) → Offered k o (after_room (c ∷ cs) b ws (cond x (Err StackFull) (Ok (Some d))))
       go true q = tt
@@ -222,7 +222,7 @@ module _ (ns : List Float) (tol : Float) (slots : ℕ) where
   after_fits : (cs : List Inscribed) (b : Inscribed) (ws : List Inscribed) (r : Answer (Option Inscribed)) → length cs ≤ slots → Fits (after_trial slots cs b ws r)
   unfolding after_trial with_room
   after_fits cs b ws (Err n) h = h
-  after_fits cs b ws (Ok (Some d)) h = go (leb 64 (suc (length ws)))
+  after_fits cs b ws (Ok (Some d)) h = go (leb most_waiting (suc (length ws)))
     where
       go : (x : Bool) → Fits (after_room cs b ws (cond x (Err StackFull) (Ok (Some d))))
       go true = h

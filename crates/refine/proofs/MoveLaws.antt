@@ -15,7 +15,7 @@ use Rattle.runs.specs.Run.{Move, ends, goes, pays}
 use Rattle.runs.proofs.RunLaws.{Falls}
 use Rattle.circles.specs.Trial.{trial}
 use Rattle.inscribed.specs.declared.Inscribed.{Inscribed}
-use Rattle.refine.specs.Machine.{State, refining, advancing, stopped, End, with_room, after_room, after_trial, refine_move, waiting_left, measure, refine_step}
+use Rattle.refine.specs.Machine.{most_waiting, State, refining, advancing, stopped, End, with_room, after_room, after_trial, refine_move, waiting_left, measure, refine_step}
 use Rattle.errors.specs.declared.Refusal.TheVariants.{StackFull, StoreFull}
 
 -- two moves that differ
@@ -65,9 +65,9 @@ left_most (b ∷ ws) = omega arith
 pub after_falls : (slots : ℕ) (cs : List Inscribed) (b : Inscribed) (ws : List Inscribed) (r : Answer (Option Inscribed)) → measure slots (after_trial slots cs b ws r) < measure slots (refining cs (b ∷ ws))
 unfolding after_trial with_room measure
 after_falls slots cs b ws (Err n) = omega arith
-after_falls slots cs b ws (Ok (Some d)) = go (leb 64 (suc (length ws))) (leb-false 64 (suc (length ws)))
+after_falls slots cs b ws (Ok (Some d)) = go (leb most_waiting (suc (length ws))) (leb-false most_waiting (suc (length ws)))
   where
-    go : (x : Bool) → (x ≡ false → suc (length ws) < 64) → measure slots (after_room cs b ws (cond x (Err StackFull) (Ok (Some d)))) < measure slots (refining cs (b ∷ ws))
+    go : (x : Bool) → (x ≡ false → suc (length ws) < most_waiting) → measure slots (after_room cs b ws (cond x (Err StackFull) (Ok (Some d)))) < measure slots (refining cs (b ∷ ws))
     go true h = omega arith
     go false h = omega (arith, h refl)
 after_falls slots cs b ws (Ok None) = go (leb slots (length cs)) (leb-false slots (length cs))

@@ -20,7 +20,7 @@ use Rattle.errors.specs.declared.Refusal.{Refusal}
 use Rattle.inscribed.specs.declared.Inscribed.{Inscribed}
 use Rattle.inscribed.proofs.StoreLaws.{stored_push, stored-again, circle_of-stored, length-circles}
 use Rattle.circles.specs.Trial.{trial}
-use Rattle.refine.specs.Machine.{State, refining, stopped, circles_in, End, finished, with_room, after_room, after_trial, refine_move, measure, refine_step, refine_run}
+use Rattle.refine.specs.Machine.{most_waiting, State, refining, stopped, circles_in, End, finished, with_room, after_room, after_trial, refine_move, measure, refine_step, refine_run}
 use Rattle.refine.specs.Report.{RunReport, reported}
 use Rattle.refine.proofs.MoveLaws.{refine_falls}
 use Rattle.errors.specs.declared.Refusal.TheVariants.{StackFull, StoreFull}
@@ -150,9 +150,9 @@ tag_of (Ok (Some d)) = 2
 pub room_to_wait : (slots n w : ℕ) (r : Answer (Option Inscribed)) (d : Inscribed) → with_room slots n w r ≡ Ok (Some d) → w < 64
 unfolding tag_of with_room
 room_to_wait slots n w (Err k) d e = let z : ◌≡◌ {A = ℕ} 0 2 = ap tag_of e in absurd (omega arith)
-room_to_wait slots n w (Ok (Some x)) d e = go (leb 64 w) (leb-false 64 w) e
+room_to_wait slots n w (Ok (Some x)) d e = go (leb most_waiting w) (leb-false most_waiting w) e
   where
-    go : (y : Bool) → (y ≡ false → w < 64) → ◌≡◌ {A = Answer (Option Inscribed)} (cond y (Err StackFull) (Ok (Some x))) (Ok (Some d)) → w < 64
+    go : (y : Bool) → (y ≡ false → w < most_waiting) → ◌≡◌ {A = Answer (Option Inscribed)} (cond y (Err StackFull) (Ok (Some x))) (Ok (Some d)) → w < 64
     go true h p = let z : ◌≡◌ {A = ℕ} 0 2 = ap tag_of p in absurd (omega arith)
     go false h p = h refl
 room_to_wait slots n w (Ok None) d e = go (leb slots n) e
@@ -164,7 +164,7 @@ room_to_wait slots n w (Ok None) d e = go (leb slots n) e
 pub room_to_take : (slots n w : ℕ) (r : Answer (Option Inscribed)) → with_room slots n w r ≡ Ok None → n < slots
 unfolding tag_of with_room
 room_to_take slots n w (Err k) e = let z : ◌≡◌ {A = ℕ} 0 1 = ap tag_of e in absurd (omega arith)
-room_to_take slots n w (Ok (Some x)) e = go (leb 64 w) e
+room_to_take slots n w (Ok (Some x)) e = go (leb most_waiting w) e
   where
     go : (y : Bool) → ◌≡◌ {A = Answer (Option Inscribed)} (cond y (Err StackFull) (Ok (Some x))) (Ok None) → n < slots
     go true p = let z : ◌≡◌ {A = ℕ} 0 1 = ap tag_of p in absurd (omega arith)

@@ -3,6 +3,7 @@ use mathlib.Core.Path.{refl, sym, ◌∙◌}
 use Prim.Native.Nat.{◌+◌, ◌-◌}
 use native.Mathlib.Omega.{arith}
 use lib.Ieee.{div, of_bits}
+use Rattle.gap.specs.Rounds.{most_rounds}
 use Rattle.inscribed.proofs.StoreLaws.{stored-again}
 use Rattle.gap.proofs.RoundsLaws.{ends_here, no_more, still, round-over, round_next}
 use Rattle.gap.proofs.checked.rounds.Goals as goal
@@ -14,7 +15,7 @@ loop-turn-init c = ((refl, refl), record { low = c.requires; fits = c.args.circl
 pub returns-then-reached-tol : goal.returns-then-reached-tol
 returns-then-reached-tol c =
     let l = c.loop-turn.invariant.1 in
-    let told = ends_here _ _ _ _ _ _ _ _ _ _ _ _ _ l (still _ _ _ _ _ _ _ _ _ _ _ _ _ l (20 - (c.loop-turn.turn + 1)) (omega arith) c.if-reached-tol.true) c.finished.result (rw c.finished.ensures) in
+    let told = ends_here _ _ _ _ _ _ _ _ _ _ _ _ _ l (still _ _ _ _ _ _ _ _ _ _ _ _ _ l (most_rounds - (c.loop-turn.turn + 1)) (omega arith) c.if-reached-tol.true) c.finished.result (rw c.finished.ensures) in
     (told.returned, told.left, c.loop-turn.invariant.0, rw c.finished.ensures)
 
 pub round-requires : goal.round-requires
@@ -27,7 +28,7 @@ pub returns-in-Break : goal.returns-in-Break
 returns-in-Break c =
     let before = c.loop-turn.invariant.0 in
     let (returned, left, same, count) = c.round.ensures in
-    let told = round-over _ _ _ _ _ _ _ _ _ _ _ _ _ c.loop-turn.invariant.1 (20 - (c.loop-turn.turn + 1)) (omega arith) c.if-reached-tol.false c.round.new.circles.store.now c.round.new.circles.count c.round.result (record { returned = returned; left = left }) _ c.in-Break.is in
+    let told = round-over _ _ _ _ _ _ _ _ _ _ _ _ _ c.loop-turn.invariant.1 (most_rounds - (c.loop-turn.turn + 1)) (omega arith) c.if-reached-tol.false c.round.new.circles.store.now c.round.new.circles.count c.round.result (record { returned = returned; left = left }) _ c.in-Break.is in
     (told.returned, told.left, (same.0 ∙ before.0, same.1 ∙ before.1), sym (rw c.in-Break.is at count))
 
 pub loop-turn-preserved : goal.loop-turn-preserved
@@ -35,7 +36,7 @@ loop-turn-preserved c =
     let before = c.loop-turn.invariant.0 in
     let (returned, left, same, count) = c.round.ensures in (
       (same.0 ∙ before.0, same.1 ∙ before.1),
-      rw same.1 (round_next _ _ _ _ _ _ _ _ _ _ _ _ _ c.loop-turn.invariant.1 (20 - (c.loop-turn.turn + 1)) (omega arith) c.if-reached-tol.false c.round.new.circles.store.now c.round.new.circles.count c.round.result (record { returned = returned; left = left }) _ c.in-Continue.is),
+      rw same.1 (round_next _ _ _ _ _ _ _ _ _ _ _ _ _ c.loop-turn.invariant.1 (most_rounds - (c.loop-turn.turn + 1)) (omega arith) c.if-reached-tol.false c.round.new.circles.store.now c.round.new.circles.count c.round.result (record { returned = returned; left = left }) _ c.in-Continue.is),
     )
 
 pub returns : goal.returns

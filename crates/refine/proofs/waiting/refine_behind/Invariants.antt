@@ -4,13 +4,13 @@ use Prim.Native.Nat.{◌+◌, ◌*◌, ◌≤◌, ◌<◌, ◌-◌}
 use mathlib.Core.List.{[], ◌∷◌, reverse}
 use lib.ListN.{length}
 use Rattle.refine.proofs.RefineLaws.{Left}
-use Rattle.refine.specs.Machine.{refine_run}
+use Rattle.refine.specs.Machine.{most_waiting, refine_run}
 use Rattle.inscribed.specs.Changes.{SameStore, in_use}
 use Rattle.runs.specs.Run.{under_limit}
 use Rattle.refine.proofs.waiting.refine_behind.Given as goal
 
 abbrev pub invariant-loop-top : goal.invariant-loop-top
-invariant-loop-top l = (length l.waiting.items ≤ 64) × (l.u.limit ≡ l.fn.units.limit) × (0 < l.circles.count) × SameStore l.initial.circles l.circles × Left l.section.points.now l.tol l.circles.slots l.fn.units.limit l.initial.circles.store.now (refine_run l.section.points.now l.tol l.initial.circles.slots (under_limit l.fn.units.limit) (in_use l.initial.circles) (l.fn.circle ∷ []) l.fn.units.taken) l.circles.store.now l.circles.count (reverse l.waiting.items) l.u.taken
+invariant-loop-top l = (length l.waiting.items ≤ most_waiting) × (l.u.limit ≡ l.fn.units.limit) × (0 < l.circles.count) × SameStore l.initial.circles l.circles × Left l.section.points.now l.tol l.circles.slots l.fn.units.limit l.initial.circles.store.now (refine_run l.section.points.now l.tol l.initial.circles.slots (under_limit l.fn.units.limit) (in_use l.initial.circles) (l.fn.circle ∷ []) l.fn.units.taken) l.circles.store.now l.circles.count (reverse l.waiting.items) l.u.taken
 
 abbrev pub decreases-loop-top : goal.decreases-loop-top
-decreases-loop-top l = (l.circles.slots - l.circles.count) * 66 + (64 - length l.waiting.items)
+decreases-loop-top l = (l.circles.slots - l.circles.count) * (most_waiting + 2) + (most_waiting - length l.waiting.items)
