@@ -9,6 +9,12 @@
  *
  * What the caller owes. A pointer with a length points to that many numbers (with length 0 it may be null); a pointer
  * without one points to as many as its comment says. What is written overlaps nothing else that is handed in.
+ * The calling thread's floating-point arithmetic rounds to nearest, has subnormal numbers (neither flush-to-zero nor
+ * denormals-are-zero is set) and traps no exception, as when a program starts. What is promised here is promised of that
+ * arithmetic and no other. With another rounding most numbers of an extraction differ; with flush-to-zero a refusal may
+ * stand in place of a result; a trap may end the program, since values on the way may be infinite or NaN, which is refused
+ * (12) and not avoided. A library built with -ffast-math can set flush-to-zero for a whole process when it is loaded;
+ * fegetround of fenv.h tells the rounding.
  *
  * Points are x, y, x, y and so on, in millimetres; a length counts numbers, not points. A line is an origin and a direction.
  * Lengths of bytes count bytes.

@@ -4,6 +4,7 @@
 #define _DEFAULT_SOURCE
 #include "../include/rummyteak.h"
 
+#include <fenv.h>
 #include <inttypes.h>
 #include <math.h>
 #include <stdio.h>
@@ -589,6 +590,75 @@ static void records(void)
     release(store), release(back), release_bytes(out), release_bytes(none);
 }
 
+/* Takes subnormal numbers for zero, or keeps them again; false where it isn't known how. */
+static bool flush_to_zero(bool on)
+{
+#if defined(__SSE2__)
+    unsigned both = 0x8040; /* flush-to-zero, and denormals-are-zero */
+    __builtin_ia32_ldmxcsr(on ? __builtin_ia32_stmxcsr() | both : __builtin_ia32_stmxcsr() & ~both);
+    return true;
+#elif defined(__aarch64__)
+    uint64_t control, flush = UINT64_C(1) << 24;
+    __asm__ volatile("mrs %0, fpcr" : "=r"(control));
+    __asm__ volatile("msr fpcr, %0" : : "r"(on ? control | flush : control & ~flush));
+    return true;
+#else
+    (void)on;
+    return false;
+#endif
+}
+
+/* An extraction in an oval that is open at its left end. */
+static size_t oval(double *store, size_t store_len, const double *section, size_t section_len, uint32_t *ending)
+{
+    size_t count = 0;
+    uint32_t units;
+    *ending = rummyteak_extract_circles(section, section_len, T, G, 0, 0.1, 0.03, 1, store, store_len, RUMMYTEAK_NO_LIMIT, &count, &units);
+    return count;
+}
+
+/* What the caller owes of the floating-point environment: the same calls rounding to nearest and otherwise, with subnormal numbers
+ * and without, and what differs. */
+static void environment(void)
+{
+    enum { POINTS = 65 };
+    static const struct {
+        int mode;
+        const char *name;
+    } modes[] = {{FE_UPWARD, "upward"}, {FE_DOWNWARD, "downward"}, {FE_TOWARDZERO, "toward zero"}};
+    const double tiny[] = {0, 0, 2e-160, 0, 3e-160, 2e-160};
+    size_t room = W * RUMMYTEAK_SLOTS;
+    double *section = marked(2 * POINTS), *want = marked(room), *got = marked(room), *points = copy(tiny, 6), x = MARK;
+    uint32_t ending, other;
+    for (int k = 0; k < POINTS; k++) {
+        double t = (k - POINTS / 2) / 4.0;
+        section[2 * k] = 20 * (1 - t * t) / (1 + t * t), section[2 * k + 1] = 8 * t / (1 + t * t);
+    }
+    size_t count = oval(want, room, section, 2 * POINTS, &ending);
+    EXPECT(ending == 0 && count > 100);
+    for (size_t k = 0; k < sizeof modes / sizeof *modes; k++) {
+        EXPECT(fesetround(modes[k].mode) == 0);
+        size_t found = oval(got, room, section, 2 * POINTS, &other), differ = 0;
+        EXPECT(fesetround(FE_TONEAREST) == 0);
+        for (size_t i = 0; i < W * (found < count ? found : count); i++)
+            differ += bits(want[i]) != bits(got[i]);
+        EXPECT(differ > 0);
+        printf("rounding %s: %zu of the %zu numbers of an extraction differ\n", modes[k].name, differ, W * count);
+    }
+    EXPECT(oval(got, room, section, 2 * POINTS, &other) == count && other == 0 && same(want, got, W * count));
+    EXPECT(rummyteak_length(points, 6, 0, &x) == 0 && x > 4.2e-160 && x < 4.3e-160);
+    if (flush_to_zero(true)) {
+        ending = rummyteak_length(points, 6, 0, &x);
+        flush_to_zero(false);
+        EXPECT(ending == 6);
+        printf("subnormal numbers taken for zero: a length is refused by %" PRIu32 ", which is a result with them\n", ending);
+        EXPECT(rummyteak_length(points, 6, 0, &x) == 0);
+    } else {
+        printf("subnormal numbers taken for zero: skipped, it isn't known how this processor does that\n");
+    }
+    release(section), release(want), release(got), release(points);
+}
+
 int main(void)
 {
     roots();
@@ -604,6 +674,7 @@ int main(void)
     records();
     stored_bytes();
     all_turns();
+    environment();
     printf("C interface: %d checks, %d wrong\n", checks, wrong);
     return wrong != 0;
 }

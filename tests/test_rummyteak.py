@@ -6,6 +6,7 @@ import ctypes
 import json
 import os
 import pickle
+import platform
 import pty
 import re
 import shutil
@@ -13,6 +14,7 @@ import struct
 import subprocess
 import sys
 import tempfile
+import threading
 import unittest
 from array import array
 from concurrent.futures import ThreadPoolExecutor
@@ -366,6 +368,71 @@ class Types(unittest.TestCase):
         with ThreadPoolExecutor(8) as pool:
             self.assertEqual(list(pool.map(ask, sections)), [ask(s) for s in sections])
         self.assertFalse(isinstance(rt._library.load(), ctypes.PyDLL), "the interpreter's lock is free meanwhile")
+
+
+class Arithmetic(unittest.TestCase):
+    """A call wants rounding to nearest, and subnormal numbers, of the thread that makes it."""
+
+    # The directed roundings, and where in an environment which bits take subnormal numbers for zero: results, operands, both.
+    KNOWN = {"x86_64": ((0x400, 0x800, 0xC00), 28, (0x8000, 0x40, 0x8040)), "aarch64": ((0x800000, 0x400000, 0xC00000), 0, (1 << 24,))}
+
+    def setUp(self):
+        try:
+            self.roundings, self.place, self.flushes = self.KNOWN[platform.machine()]
+            self.c = ctypes.CDLL(None)
+            self.c.fesetround, self.c.fegetenv, self.c.fesetenv
+        except (KeyError, OSError, AttributeError):
+            self.skipTest("it isn't known how this machine's arithmetic is changed")
+
+    def round(self, how):
+        self.c.fesetround(how)
+
+    def flush(self, how):
+        environment = (ctypes.c_uint8 * 64)()
+        self.c.fegetenv(environment)
+        control = ctypes.c_uint32.from_buffer(environment, self.place)
+        control.value |= how
+        self.c.fesetenv(environment)
+
+    def asked_in_a_thread(self, change, how, function=lambda: rt.length(R, T)):
+        """What a function answers in a thread of its own whose arithmetic is changed."""
+        answers = []
+
+        def run():
+            change(how)
+            try:
+                answers.append(function())
+            except Exception as error:
+                answers.append(error)
+
+        thread = threading.Thread(target=run)
+        thread.start()
+        thread.join()
+        return answers[0]
+
+    def test_roundings(self):
+        for how in self.roundings:
+            with self.subTest(how=hex(how)):
+                error = self.asked_in_a_thread(self.round, how)
+                self.assertIsInstance(error, FloatingPointError)
+                self.assertIn("round to nearest", str(error))
+                self.assertEqual(rt.length(R, T), 20, "another thread's arithmetic is its own")
+        self.assertEqual(self.asked_in_a_thread(self.round, 0), 20)
+
+    def test_subnormal_numbers(self):
+        for how in self.flushes:
+            with self.subTest(how=hex(how)):
+                error = self.asked_in_a_thread(self.flush, how)
+                self.assertIsInstance(error, FloatingPointError)
+                self.assertIn("subnormal", str(error))
+                self.assertEqual(rt.length([0, 0, 2e-160, 0, 3e-160, 2e-160], 0).hex(), (4.236044397748694e-160).hex())
+        self.assertEqual(self.asked_in_a_thread(self.flush, 0), 20)
+
+    def test_every_call(self):
+        """Each function is asked so, and a thread that is started in such a thread too."""
+        for function in (lambda: rt.sqrt(2), lambda: rt.march(R, T, G, (4, 1, 0, 1)), lambda: rt.write_record(PAIR), lambda: rt.orient_tmax_fwd(PAIR)):
+            self.assertIsInstance(self.asked_in_a_thread(self.round, self.roundings[0], function), FloatingPointError)
+            self.assertIsInstance(self.asked_in_a_thread(self.flush, self.flushes[0], lambda: self.asked_in_a_thread(self.flush, 0, function)), FloatingPointError)
 
 
 class Header(unittest.TestCase):

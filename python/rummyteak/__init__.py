@@ -8,7 +8,8 @@ contiguous float64 numbers (an array.array('d'), a numpy array) is read where it
 Circles are any sequence of Inscribed. Bytes are
 anything contiguous with the buffer protocol, copied only where it is read-only. A number of a wrong type is a TypeError, a whole number out of its range or points that are no pairs a ValueError.
 
-No call holds state, and other threads run while the library works.
+No call holds state, and other threads run while the library works. The results hold with rounding to nearest and with subnormal numbers, as arithmetic is when a program starts; where that of the
+calling thread has been changed, a call raises FloatingPointError.
 """
 
 from __future__ import annotations

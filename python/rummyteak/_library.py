@@ -5,6 +5,7 @@ from __future__ import annotations
 import ctypes
 import operator
 import os
+import sys
 from pathlib import Path
 from typing import Any
 
@@ -154,7 +155,24 @@ def _handed(name: str, kind: Any, value: Any) -> Any:
     return ctypes.byref(value) if isinstance(value, (d, n, b, u)) else value
 
 
+# Above 1 the next number is a step away. Only where sums round to nearest, 1 and a quarter of the step, and 1 and three quarters of it, are two numbers. Half of the least normal number is subnormal.
+_ONE, _QUARTER, _THREE_QUARTERS, _LEAST, _HALF = 1.0, sys.float_info.epsilon / 4, sys.float_info.epsilon * 0.75, sys.float_info.min, 0.5
+
+
+def _strange_arithmetic() -> FloatingPointError:
+    """Why this thread's arithmetic is not the one that the results are proved for."""
+    if _ONE + _QUARTER == _ONE + _THREE_QUARTERS:
+        why, how = "it does not round to nearest", "fesetround(FE_TONEAREST) sets that"
+    else:
+        why, how = "it takes subnormal numbers for zero", "a library built with -ffast-math may have set that for the whole process when it was loaded"
+    return FloatingPointError(f"the floating-point arithmetic of this thread has been changed: {why} ({how}). Rummyteak's results hold with rounding to nearest and with subnormal numbers")
+
+
 def call(name: str, *args: Any) -> int:
-    """Calls rummyteak_NAME and returns its number. A single number to be written is handed in as a ctypes object. Other threads run meanwhile."""
+    """Calls rummyteak_NAME and returns its number. A single number to be written is handed in as a ctypes object. Other threads run meanwhile. FloatingPointError where this thread doesn't round to
+    nearest, or takes subnormal numbers for zero."""
     function = getattr(load(), "rummyteak_" + name)
-    return int(function(*(_handed(name, kind, value) for kind, value in zip(_arguments[name], args))))
+    handed = [_handed(name, kind, value) for kind, value in zip(_arguments[name], args)]
+    if _ONE + _QUARTER == _ONE + _THREE_QUARTERS or not _LEAST * _HALF:
+        raise _strange_arithmetic()
+    return int(function(*handed))
