@@ -350,6 +350,103 @@ class Types(unittest.TestCase):
                     function(*args)
                 self.assertTrue(str(caught.exception))
 
+    def test_complex(self):
+        """A complex number is no real one, whatever its imaginary part, and though it may be asked for a float."""
+
+        class Own(float):
+            pass
+
+        class Kind:
+            def __init__(self, kind):
+                self.dtype = type("dtype", (), {"kind": kind})
+
+            def __float__(self):
+                return 4.0
+
+        for wrong in (4 + 0j, Kind("c")):
+            for function, *args in (
+                (rt.length, [*R[:-1], wrong], T), (rt.length, [(0, 0), (8, wrong)], T), (rt.length, R, wrong), (rt.at_closest_to_point, R, T, wrong, 1), (rt.crossing_line, R, T, (wrong, 1, 0, 1)),
+                (rt.index_of_tmax, [PAIR[0]._replace(cx=wrong)]), (rt.write_record, [PAIR[0]._replace(l1=wrong)]), (rt.make_camber_curve, (0, wrong), (8, 1), PAIR, T),
+            ):
+                with self.subTest(function=function.__name__, wrong=type(wrong)):
+                    with self.assertRaisesRegex(TypeError, "complex"):
+                        function(*args)
+        self.assertEqual(rt.length([*R[:-1], Kind("f")], T), rt.length([*R[:-1], 4.0], T))
+        self.assertEqual(rt.length([*R[:-1], Own(4)], T), rt.length([*R[:-1], 4.0], T))
+        self.assertEqual(rt.index_of_tmax([PAIR[0]._replace(cx=Kind("f"))]), 0)
+
+    def test_masked(self):
+        """What a mask covers is no measurement. A mask that covers nothing is none."""
+
+        class Number:
+            def __init__(self, mask):
+                self.mask = mask
+
+            def __float__(self):
+                return 0.0
+
+        class Buffer(ctypes.c_double * 10):
+            mask = (ctypes.c_bool * 10)()
+
+        points = Buffer(*R)
+        self.assertEqual(rt.length(points, T), 20)
+        self.assertEqual(rt.length([*R[:-1], Number(False)], T), 20)
+        self.assertEqual(rt.length([*R[:-1], Number(lambda: True)], T), 20, "a method of that name is no mask")
+        shuffled = rt.shuffle(points)
+        points.mask[3] = True
+        for function, *args in (
+            (rt.length, points, T), (rt.length, memoryview(points), T), (rt.from_points, points, T), (rt.shuffle, points),
+            (rt.length, [*R[:-1], Number(True)], T), (rt.length, [(0, 0), (8, Number(True))], T), (rt.length, R, Number(True)), (rt.index_of_tmax, [PAIR[0]._replace(cx=Number(True))]),
+        ):
+            with self.subTest(function=function.__name__):
+                with self.assertRaisesRegex(ValueError, "masked"):
+                    function(*args)
+        points.mask[3] = False
+        self.assertEqual(rt.shuffle(points), shuffled)
+
+    def test_numpy_complex_and_masked(self):
+        try:
+            import numpy
+        except ImportError:
+            self.skipTest("numpy isn't installed")
+        pairs = numpy.array(R, dtype=float).reshape(-1, 2)
+        circles = numpy.array(PAIR)
+        for kind in ("c8", "c16", "G", ">c16", "O"):
+            made = pairs.astype(complex).astype(kind)
+            for points in (made, made.ravel(), made[::-1], list(made), list(made.ravel()), made.tolist(), [tuple(p) for p in made], numpy.ma.array(made)):
+                with self.assertRaisesRegex(TypeError, "complex"):
+                    rt.length(points, T)
+            with self.assertRaisesRegex(TypeError, "complex"):
+                rt.index_of_tmax(circles.astype(complex).astype(kind))
+            with self.assertRaisesRegex(TypeError, "complex"):
+                rt.length(pairs, made[0, 0])
+            with self.assertRaisesRegex(TypeError, "complex"):
+                rt.length(pairs, made[0, 0].reshape(()) if kind != "O" else 0j)
+        for mask in (numpy.ma.nomask, False, numpy.zeros_like(pairs, dtype=bool)):
+            self.assertEqual(rt.length(numpy.ma.array(pairs, mask=mask), T), 20)
+            self.assertEqual(rt.length(list(numpy.ma.array(pairs, mask=mask)), T), 20)
+            self.assertEqual(rt.index_of_tmax(numpy.ma.array(circles, mask=mask if mask is numpy.ma.nomask or mask is False else numpy.zeros_like(circles, dtype=bool))), 1)
+        masked = numpy.ma.array(pairs)
+        masked[1, 1] = numpy.ma.masked
+        for points in (masked, masked.ravel(), masked[::-1], masked.astype("f4"), masked.astype(int), list(masked), list(masked.ravel()), memoryview(masked), numpy.ma.array(pairs, mask=True)):
+            with self.assertRaisesRegex(ValueError, "masked"):
+                rt.length(points, T)
+        self.assertEqual(rt.length(masked[2:], T), 10, "the part that isn't masked")
+        with self.assertRaisesRegex(ValueError, "masked"):
+            rt.shuffle(masked)
+        with self.assertRaisesRegex(ValueError, "masked"):
+            rt.length(pairs, numpy.ma.masked)
+        hidden = numpy.ma.array(circles)
+        hidden[1, 8] = numpy.ma.masked
+        with self.assertRaisesRegex(ValueError, "masked"):
+            rt.write_record(hidden)
+        # other kinds of array are what they were
+        class Own(numpy.ndarray):
+            pass
+
+        for points in (pairs.view(Own), [numpy.float64(x) for x in R], [numpy.float32(x) for x in R], pairs.astype("f2"), pairs.astype("g"), pairs.astype(object)):
+            self.assertEqual(rt.length(points, T), 20)
+
     def test_records(self):
         self.assertEqual(rt.WIDTH, len(UNIT))
         self.assertEqual((UNIT.center, UNIT.radius, UNIT.p0, UNIT.p1, UNIT.l0, UNIT.l1), ((4, 1.00048828125), 0.99951171875, (4, 0), (4, 2), 4, 14))

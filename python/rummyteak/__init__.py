@@ -6,7 +6,8 @@ extract_circles, fit_open_edge) that began returns its circles whichever way it 
 Points, and a section, may be a list of pairs, a flat list of numbers, a Curve2, or anything with the buffer protocol, flat or of pairs. A buffer of
 contiguous float64 numbers (an array.array('d'), a numpy array) is read where it stands, and copied only where it is read-only; another one is converted.
 Circles are any sequence of Inscribed. Bytes are
-anything contiguous with the buffer protocol, copied only where it is read-only. A number of a wrong type is a TypeError, a whole number out of its range or points that are no pairs a ValueError.
+anything contiguous with the buffer protocol, copied only where it is read-only. A number of a wrong type is a TypeError, and so is a complex one, whatever its imaginary part. A whole number out of its
+range, points that are no pairs, and an array in which something is masked, are a ValueError; an array with a mask that covers nothing is read as any other.
 
 No call holds state, and other threads run while the library works. The results hold with rounding to nearest and with subnormal numbers, as arithmetic is when a program starts; where that of the
 calling thread has been changed, a call raises FloatingPointError.
@@ -20,7 +21,7 @@ from array import array
 from dataclasses import dataclass
 from typing import Any, Iterable, List, NamedTuple, Optional, Sequence, Tuple, Union
 
-from ._library import NO_LIMIT, SLOTS, WORDS, call, real, whole
+from ._library import NO_LIMIT, SLOTS, WORDS, call, is_masked, real, whole
 
 __all__ = [
     "Refused", "Curve2", "Piece", "CurveStation2", "Line2", "Crossing", "Inscribed", "CircleOnLine", "Run", "March", "Fit", "NO_LIMIT", "SLOTS", "WIDTH", "WORDS",
@@ -208,6 +209,12 @@ def _flat(points: Iterable[Any]) -> Any:
     return (ctypes.c_double * len(flat))(*flat)
 
 
+def _unmasked(name: str, data: Any) -> None:
+    """A mask says what is no measurement; the numbers under it are not taken for one."""
+    if is_masked(data):
+        raise ValueError(f"{name}: something in the array is masked; take out what is masked first")
+
+
 def _numbers(points: Points) -> Any:
     """The numbers of the points as a ctypes array, which keeps them alive. A writable buffer of float64 numbers is not copied."""
     data: Any = points.numbers if isinstance(points, Curve2) else points
@@ -215,8 +222,11 @@ def _numbers(points: Points) -> Any:
         view = memoryview(data)
     except TypeError:
         return _flat(data)
+    _unmasked("points", view.obj)
     shape = view.shape or ()
     kind = view.format.lstrip("@=" + _OWN_ORDER)
+    if kind.startswith("Z"):
+        raise TypeError(f"points are real numbers: a buffer of format {view.format!r} holds complex ones")
     if kind in ("B", "b", "c", "?"):
         raise TypeError(f"points are numbers: a buffer of format {view.format!r} holds bytes")
     if len(shape) not in (1, 2) or (len(shape) == 2 and shape[1] != 2):
@@ -235,6 +245,8 @@ def _stored(circles: Circles, slots: int = 0) -> Any:
     flat = [x for c in circles for x in c]
     if any(len(c) != WIDTH for c in circles):
         raise ValueError(f"a circle is {WIDTH} numbers")
+    if any(type(x) is not float for x in flat):
+        flat = [real("circles", x) for x in flat]
     store: Any = (ctypes.c_double * max(WIDTH * whole("slots", slots, 2**31), len(flat)))()
     store[: len(flat)] = flat
     return store
@@ -627,6 +639,7 @@ def _bytes_of(name: str, data: Any) -> Any:
         view = memoryview(data)
     except TypeError:
         raise TypeError(f"{name}: bytes, or a buffer of numbers, not {data!r}") from None
+    _unmasked(name, view.obj)
     if not view.c_contiguous:
         raise ValueError(f"{name}: the buffer isn't contiguous")
     array_type = ctypes.c_uint8 * view.nbytes

@@ -3,6 +3,7 @@
 from __future__ import annotations
 
 import ctypes
+import numbers
 import operator
 import os
 import sys
@@ -122,8 +123,32 @@ def load() -> Any:
     return _loaded
 
 
+def is_masked(data: Any) -> bool:
+    """Whether something in an array is masked, as in numpy.ma; a mask that covers nothing is none."""
+    mask = getattr(data, "mask", None)
+    if mask is None or callable(mask):
+        return False
+    try:
+        return any(memoryview(mask).tobytes())
+    except TypeError:
+        return bool(mask)
+
+
+def _is_complex(value: Any) -> bool:
+    if isinstance(value, numbers.Complex):
+        return not isinstance(value, numbers.Real)
+    return getattr(getattr(value, "dtype", None), "kind", "") == "c"
+
+
 def real(name: str, value: Any) -> float:
     """A number as a float; ctypes would take less and say less."""
+    if isinstance(value, float):
+        return float(value)
+    if not isinstance(value, int):
+        if is_masked(value):
+            raise ValueError(f"{name}: a number is masked")
+        if _is_complex(value):
+            raise TypeError(f"{name}: {value!r} is complex, and not a real number")
     try:
         if not isinstance(value, (str, bytes, bytearray)):
             return float(value)
