@@ -3,7 +3,7 @@
     python3 examples/many.py FOLDER [--scheduler ADDRESS] [the command's options]
 
 Without an address it starts a cluster of its own on this machine. Each worker calls the same function as the command, so it needs this folder tree with the library
-built (include/build), and the files under the same names. What is printed, and the exit status, are the command's for the folder's files in the order of their names."""
+built (include/build), and the files under the same names. What is printed, what is said on standard error, and the exit status, are the command's for the folder's files in the order of their names."""
 
 from __future__ import annotations
 
@@ -17,17 +17,18 @@ PYTHON = str(Path(__file__).resolve().parents[1] / "python")
 if PYTHON not in sys.path:
     sys.path.insert(0, PYTHON)
 
-from rummyteak.__main__ import options_of, parser  # noqa: E402
+from rummyteak.__main__ import options_of, parser, reading_of  # noqa: E402
 
 
-def told_there(name: str, python: str, options: Dict[str, Any]) -> Tuple[str, int]:
-    """Runs on a worker: the line of a file and its exit status."""
+def told_there(name: str, python: str, options: Dict[str, Any], reading: Dict[str, Any]) -> Tuple[str, str, int]:
+    """Runs on a worker: the line of a file, what is said of its reading, and its exit status."""
     if python not in sys.path:
         sys.path.insert(0, python)
     from rummyteak.blade import Options
+    from rummyteak.files import Reading
     from rummyteak.report import told
 
-    return told(name, Options(**options))
+    return told(name, Options(**options), Reading(**reading))
 
 
 def main(arguments: Optional[List[str]] = None) -> int:
@@ -41,15 +42,16 @@ def main(arguments: Optional[List[str]] = None) -> int:
     if not names:
         sys.stderr.write(f"many.py: no file in {mine.folder}\n")
         return 66
-    options = options_of(parser().parse_args([*rest, "--", *names]))
+    args = parser().parse_args([*rest, "--", *names])
 
     from distributed import Client, LocalCluster
 
     cluster = None if mine.scheduler else LocalCluster(n_workers=mine.workers, threads_per_worker=1, dashboard_address=None)
     status = 0
     with Client(mine.scheduler or cluster) as client:
-        for future in client.map(told_there, names, python=PYTHON, options=asdict(options), pure=False):
-            text, number = future.result()
+        for future in client.map(told_there, names, python=PYTHON, options=asdict(options_of(args)), reading=asdict(reading_of(args)), pure=False):
+            text, notes, number = future.result()
+            sys.stderr.write(notes)
             sys.stdout.write(text)
             status = status or number
     if cluster is not None:

@@ -26,7 +26,7 @@ sys.path.insert(0, str(ROOT / "python"))
 
 import rummyteak as rt  # noqa: E402
 from rummyteak._library import call  # noqa: E402
-from rummyteak.files import read  # noqa: E402
+from rummyteak.files import Reading, Unreadable, read  # noqa: E402
 from rummyteak.report import ADVICE  # noqa: E402
 
 R = [0, 0, 8, 0, 8, 2, 0, 2, 0, 0]
@@ -592,7 +592,9 @@ class Command(unittest.TestCase):
         for section in sections:
             with self.subTest(section=section.name):
                 done = self.run_command(f"examples/{section.name}")
-                self.assertEqual((done.stdout, done.returncode, done.stderr), (section.with_suffix(".txt").read_text(encoding="utf-8"), 0, ""))
+                title = section.read_text(encoding="utf-8").splitlines()[0]
+                self.assertEqual((done.stdout, done.returncode), (section.with_suffix(".txt").read_text(encoding="utf-8"), 0))
+                self.assertEqual(done.stderr, f"rummyteak: examples/{section.name}: line 1 passed over: {title}\n")
 
     def test_examples_are_made(self):
         with tempfile.TemporaryDirectory() as folder:
@@ -613,7 +615,10 @@ class Command(unittest.TestCase):
             "\ufeff" + "".join(f"{x}\t{y}\r\n" for x, y in pairs),
             "NACA 0012, a title\n\n# a note\n" + "".join(f"  {x:.6f}   {y:.6f}\n" for x, y in pairs),
             "Machine; 7\nX [mm]; Y [mm]\n" + "".join(f"{x};{y}\n" for x, y in pairs),
-            "2412 of NACA\n" + "".join(f"{x} , {y}\n\n" for x, y in pairs),
+            "NACA 2412\n" + "".join(f"{x} , {y}\n\n" for x, y in pairs),
+            '\ufeff"x","y"\n' + "".join(f'"{x}","{y}"\n' for x, y in pairs) + ",,\n",
+            "".join(f"{x} {y};\n" for x, y in pairs) + "\n;;;\n",
+            "".join(f"{x:+d}. {y}e0\u00a0 # touch {k}\n" for k, (x, y) in enumerate(pairs)),
         ):
             with self.subTest(text=text):
                 self.assertEqual(self.run_command("-", "--line", "4", "1", "0.1", "1", given=text).stdout, want.stdout)
@@ -621,8 +626,8 @@ class Command(unittest.TestCase):
             ("x;y\n0;0\n8;0\nhere\n", ("line 4", "here")),
             ("0 0\n8 0 0\n", ("line 2", "8 0 0")),
             ("0 0\n8\n", ("line 2", "8")),
-            ("1 0 0\n2 8 0\n", ("line 2", "2 8 0")),
-            ("0,5;1,5\n8,5;0,5\n", ("line 2", "8,5;0,5")),
+            ("1 0 0\n2 8 0\n", ("line 1", "1 0 0")),
+            ("0,5;1,5\n8,5;0,5\n", ("line 1", "0,5;1,5")),
             ("nothing here\n", ("no line",)),
             ("", ("no line",)),
         ):
@@ -635,6 +640,180 @@ class Command(unittest.TestCase):
             done = self.run_command(name)
             self.assertEqual((done.returncode, done.stdout), (66, ""))
             self.assertIn(name, done.stderr)
+
+    def read(self, text, **how):
+        """The numbers of a file with this text, and what is said of it."""
+        with tempfile.TemporaryDirectory() as folder:
+            name = str(Path(folder) / "section")
+            Path(name).write_bytes(text.encode("utf-8") if isinstance(text, str) else text)
+            said = []
+            numbers = read(name, Reading(**how), said.append)
+            return list(numbers), [note[len(name) + 2 :] for note in said]
+
+    def unreadable(self, text, **how):
+        """Why a file with this text isn't read."""
+        with self.assertRaises(Unreadable) as caught:
+            self.read(text, **how)
+        return str(caught.exception).split(": ", 1)[1]
+
+    def test_first_lines(self):
+        """A first line that begins with a number is a point or an error, and never a title."""
+        rest = "59 1\n58 2\n57 3\n56 4\n"
+        numbers = [59, 1, 58, 2, 57, 3, 56, 4]
+        for first in ("60.000000 0.075600", "60 0", "60,0", "-60 0", "60.;.5", "60\t0\t", "6e1 0", "nan 0", "60 60", "60 0 ;", '"60" "0"', "60.000000 0.075600 # first touch", "60 0 #", "inf 0", "60.5 0", "0 0", "1 1"):
+            with self.subTest(first=first):
+                got, said = self.read(f"{first}\n{rest}")
+                self.assertEqual((len(got), got[2:]), (10, numbers), "a point")
+                self.assertEqual(len(said), first.count("#"))
+                self.assertEqual(self.read(f"A title\n\n{first}\n{rest}")[0][2:], numbers)
+        for first in (
+            "60.0 0.0756 0.0", "60.000000", "60", "2412 of NACA", "1st stage", "60,0;0,07", "60,5 0,1", "60.0mm 0.0756mm", "60.0|0.0756", "60.000000-0.075600", "6O.0 0.0756", "60.0 O.0756", "60.0 #0.0756", "60.0 0.07# touch",
+            "\u22126.0 \u22120.7", "60.0;", ";60.0;0.07", "60.0,,0.07", "60_0 0_7", "0x3c 0", "60.0 0.0756 first", '"60.0,0.0756', '"60,0";"0,07"', "nan nan nan", "\ufffd60 0", "\u00ef\u00bb\u00bf60 0", "\u200b60 0", "[60 0", "\uff16\uff10 0", "1.0D+1 2.0D+0", ".5", "-.5 1 2", "1;60;0",
+        ):
+            with self.subTest(first=first):
+                self.assertIn("line 1 ", self.unreadable(f"{first}\n{rest}"))
+                self.assertIn("line 2 ", self.unreadable(f"A title\n{first}\n{rest}"))
+                self.assertIn("line 5 ", self.unreadable(f"{rest}{first}\n{rest}"))
+                self.assertEqual(self.read(f"{first}\n{rest}", skip=1), (numbers, ["line 1 passed over by --skip; line 1: " + first.replace("\u200b", "?")]))
+        for first in ("NACA 2412", "section of 60 0", "x y", "# 60 0", "(first) 60 0", "infinite 0 0", "-", "A\nB\nC 7 8"):
+            with self.subTest(first=first):
+                got, said = self.read(f"{first}\n{rest}")
+                self.assertEqual((got, len(said)), (numbers, len(first.splitlines())))
+                for at, line in enumerate(first.splitlines(), 1):
+                    self.assertTrue(any(f"line {at}" in note and line in note for note in said), said)
+        self.assertIn("line 3 ", self.unreadable("59 1\n58 2\nNACA 2412\n57 3\n"), "behind a point no line is a header")
+        # the same by the command: nothing is done, or what was passed over is said
+        done = self.run_command("-", given=f"60.0 0.0756 0.0\n{rest}")
+        self.assertEqual((done.returncode, done.stdout), (66, ""))
+        self.assertIn("line 1 has 3 columns, and two are wanted: 60.0 0.0756 0.0", done.stderr)
+        self.assertIn("--columns", done.stderr)
+        text = (ROOT / "examples" / "open.dat").read_text(encoding="utf-8").splitlines()
+        want = self.run_command("-", given="\n".join(text[1:]))
+        done = self.run_command("-", given="\n".join([text[1] + " # first touch", *text[2:]]))
+        self.assertEqual((done.stdout, done.returncode, want.stderr), (want.stdout, 0, ""))
+        self.assertEqual(done.stderr, "rummyteak: standard input: comments passed over in line 1; line 1: # first touch\n")
+
+    def test_passed_over(self):
+        """What is passed over is said, with its line."""
+        text = "Machine 7\n\n# by hand\n" + "".join(f"H{k}\n" for k in range(12)) + "0 0 # start\n8 0\n# turned\n# over\n8 2\n\n0 2 # end\n"
+        numbers, said = self.read(text)
+        self.assertEqual(numbers, R[:8])
+        self.assertEqual(said, ["line 1 passed over: Machine 7", *(f"line {k + 4} passed over: H{k}" for k in range(9)), "lines 13 to 15 passed over", "comments passed over in lines 3, 16, 18 to 19, 22; line 3: # by hand"])
+        numbers, said = self.read("".join(f"{k} {k * k} # {k}\n\n" for k in range(100)))
+        self.assertEqual((len(numbers), said), (200, ["comments passed over in lines 1, 3, 5, 7, 9, 11, 13, 15 and so on, 100 in all; line 1: # 0"]))
+        self.assertEqual(self.read("Blade #7\n0 0\n8 0\n")[1], ["line 1 passed over: Blade #7"])
+        self.assertEqual(self.read(b"Schaufel \xe4\x1b\n0 0\n8 0\n")[1], ["line 1 passed over: Schaufel \ufffd?"])
+        self.assertEqual(self.read("0 0\n8 0\n8 2\n")[1], [])
+
+    def test_columns(self):
+        self.assertEqual(self.read("0 0 7\n8 0 7\n8 2 7\n", columns=(1, 2)), (R[:6], ["columns but 1 and 2 passed over in lines 1 to 3"]))
+        self.assertEqual(self.read("nr;x;y;;note\n1;0;0;;\n2;8;0;;a #7\n3;8;2;;\n", columns=(2, 3)), (R[:6], ["line 1 passed over: nr;x;y;;note", "comments passed over in line 3; line 3: #7", "columns but 2 and 3 passed over in lines 2 to 4"]))
+        self.assertEqual(self.read("P#1 0 0\nP#2 8 0\n\"P #3\" 8 2\n", columns=(2, 3))[0], R[:6])
+        self.assertEqual(self.read("0 0\n0 8\n2 8\n", columns=(2, 1)), (R[:6], []))
+        self.assertEqual(self.read("a;;0;0\nb;;8;0\n", columns=(3, 4))[0], R[:4], "an empty column counts")
+        self.assertIn("line 2 has no column 3", self.unreadable("1 0 0\n2 8\n", columns=(2, 3)))
+        self.assertIn("line 2 is no pair", self.unreadable("1 0 0\n2 8 x\n", columns=(2, 3)))
+        self.assertIn("line 1 is no pair", self.unreadable("P1 0 O\nP2 8 0\n", columns=(2, 3)), "a column that is wanted begins with a number")
+        self.assertIn("line 1 has no column 3", self.unreadable("P1 60.0\nP2 8 0\n", columns=(2, 3)), "and so it is no header")
+        self.assertIn("line 1 has 4 columns, and the next point has 3", self.unreadable("Section 12 45.5 mm\nP1 0 0\nP2 8 0\n", columns=(2, 3)))
+        self.assertEqual(self.read("P1 0 0 first\nP2 8 0\n", columns=(2, 3), format="points")[0], R[:4])
+        self.assertIn("--columns", self.unreadable("P1 0 0\nP2 8 0\n"))
+        self.assertIn("--columns", self.unreadable("0 0\n8 0 1\n"))
+        done = self.run_command("-", "--columns", "2,3", "--line", "4", "1", "0.1", "1", given="".join(f"{k}\t{x}\t{y}\n" for k, (x, y) in enumerate(zip(R[::2], R[1::2]))))
+        want = self.run_command("-", "--line", "4", "1", "0.1", "1", given=self.TEXT)
+        self.assertEqual((done.stdout, done.returncode), (want.stdout, 0))
+        self.assertEqual(done.stderr, "rummyteak: standard input: columns but 2 and 3 passed over in lines 1 to 5\n")
+        for word in ("0,1", "1", "1,1", "1,2,3", "a,b", "1;2", "", "1,-2", "1,9999999"):
+            self.assertEqual(self.run_command("-", f"--columns={word}", given=self.TEXT).returncode, 64)
+
+    def test_decimal_commas(self):
+        want = [60.5, 0.25, -59, 1e-3, 0.5, 7]
+        for text in ("60,5;0,25\n-59;1e-3\n,5;7,\n", "60,5 0,25\n-59 ,001\n0,5\t7\n", '"60,5","0,25"\n"-59","0,001"\n"0,5","7"\n', '"60,5";"0,25"\n-59;0,001\n0,5;7;\n'):
+            with self.subTest(text=text):
+                self.assertEqual(self.read(f"x y\n{text}", decimal_comma=True)[0], want)
+                self.assertIn("--decimal-comma", self.unreadable(text))
+        for text in ("60.5;0,25\n", "1.060,5;0,1\n", "60,5,0,25\n"):
+            self.assertIn("line 1 ", self.unreadable(text, decimal_comma=True))
+        self.assertEqual(self.read("1;60,5;0,25\n2;-59;0,001\n", decimal_comma=True, columns=(2, 3))[0], want[:4])
+
+    def surfaces(self, apart=0.0):
+        """A contour whose leading edge stands once, and the same as a Lednicer file with this first pair; the lower surface may begin so far from the upper one."""
+        contour, _ = self.read((ROOT / "examples" / "open.dat").read_text(encoding="utf-8"))
+        pairs = list(zip(contour[::2], contour[1::2]))
+        edge = pairs.index(min(pairs))
+        upper, lower = pairs[edge::-1], [(pairs[edge][0] + apart, pairs[edge][1]), *pairs[edge + 1 :]]
+        text = lambda p: "".join(f"{x!r} {y!r}\n" for x, y in p)  # noqa: E731
+        return contour, lambda first, blank="\n": f"NACA 4415\n{first}\n{blank}{text(upper)}{blank}{text(lower)}", len(upper), len(lower)
+
+    def test_lednicer(self):
+        contour, file, upper, lower = self.surfaces()
+        for first in (f"{upper}. {lower}.", f"  {upper}.0   {lower}.0", f"{upper};{lower}", f"{upper} {lower} # points"):
+            for blank in ("\n", "", " \n\n"):
+                with self.subTest(first=first, blank=blank):
+                    got, said = self.read(file(first, blank))
+                    self.assertEqual(list(rt.from_points(got, T).numbers), list(rt.from_points(contour, T).numbers), "one contour")
+                    self.assertEqual(len(got), len(contour) + 2, "no point is lost: the leading edge stands in both surfaces")
+                    self.assertIn("a Lednicer file, read as one contour", said[-1])
+                    self.assertIn("line 2 counts the points of two surfaces", said[-1])
+        for counts in (f"{upper} {lower - 1}", f"{upper + 1} {lower}", f"{upper - 1} {lower + 1}"):
+            with self.subTest(counts=counts):
+                self.assertIn("line 2 counts points as a Lednicer file does, and {} and {} stand behind it".format(upper, lower), self.unreadable(file(counts)))
+                got, said = self.read(file(counts), format="points")
+                self.assertEqual((got[:2], len(got), len(said)), ([float(x) for x in counts.split()], len(contour) + 4, 1))
+        self.assertIn("line 2 doesn't count", self.unreadable(file(f"{upper} {lower - 1}"), format="lednicer"))
+        self.assertIn("line 1 doesn't count", self.unreadable("0 0\n8 0\n8 2\n", format="lednicer"))
+        # cut off while it was copied
+        cut = file(f"{upper} {lower}").splitlines()[: upper - 5]
+        self.assertIn("line 2 counts points", self.unreadable("\n".join(cut)))
+        # surfaces that begin at two points stand apart in the file, or an option says that there are two
+        _, apart, _, _ = self.surfaces(apart=0.01)
+        got, _ = self.read(apart(f"{upper} {lower}"))
+        self.assertEqual(len(rt.from_points(got, T).points()), len(contour) // 2 + 1)
+        self.assertIn("--format lednicer", self.unreadable(apart(f"{upper} {lower}", "")))
+        self.assertEqual(self.read(apart(f"{upper} {lower}", ""), format="lednicer")[0], got)
+        # what doesn't fit is a point, or an error
+        got, said = self.read(file("60.5 60", "").split("\n", 1)[1])
+        self.assertEqual((got[:2], len(got), said), ([60.5, 60], len(contour) + 4, []))
+        self.assertIn("line 1 is a point, or counts points", self.unreadable(file("60 60", "").split("\n", 1)[1]))
+
+    def test_counts_or_a_point(self):
+        """A first pair that may count the points behind it is told by an option, and by no guess."""
+        rest = [(x, (x - 7) ** 2 / 10) for x in range(15, 3, -1)]
+        text = "".join(f"{x} {y!r}\n" for x, y in rest)
+        for first in ("12 0", "12. 1", "5 7", "3 12", "0 12", "12 12"):
+            with self.subTest(first=first):
+                why = self.unreadable(f"{first}\n{text}")
+                for words in ("line 1 is a point, or counts the 12 points behind it", "--format points", "--skip 1"):
+                    self.assertIn(words, why)
+                self.assertEqual("--format lednicer" in why, first == "5 7")
+                got, said = self.read(f"{first}\n{text}", format="points")
+                self.assertEqual((got[:2], len(got), said), ([float(x) for x in first.split()], 26, []))
+                self.assertEqual(len(self.read(f"{first}\n{text}", skip=1)[0]), 24)
+        self.assertEqual(len(self.read(f"5 7\n{text}", format="lednicer")[0]), 24)
+        for first in ("13 0", "12.5 0", "-12 24", "11 0", "nan 12", "12 -0.5", "5 6", "inf 12", "0 0", "12.0 0.0", "12 -0"):
+            self.assertEqual(len(self.read(f"{first}\n{text}")[0]), 26, first)
+        # one that is whole above numbers that all have decimals
+        lines = (ROOT / "examples" / "open.dat").read_text(encoding="utf-8").split("\n", 1)[1]
+        for first in ("60 0", "60 60", "60. 1.", "121 2"):
+            why = self.unreadable(f"{first}\n{lines}")
+            for words in ("line 1 is a point, or counts", "--format points", "--skip 1"):
+                self.assertIn(words, why)
+            self.assertEqual(self.read(f"{first}\n{lines}", format="points")[0][:2], [float(x) for x in first.split()])
+        for first, more in (("60.0 0.0", ""), ("60 0.5", ""), ("0 0", ""), ("60 -0", ""), ("60 0", "7 8.5\n")):
+            self.assertEqual(len(self.read(f"{first}\n{lines}{more}")[0]), 244 + 2 * bool(more), first)
+        done = self.run_command("-", given=f"12 0\n{text}")
+        self.assertEqual((done.returncode, done.stdout), (66, ""))
+        self.assertEqual(json.loads(self.run_command("-", "--format", "points", "--json", "-", given=f"12 0\n{text}").stdout)["reading"]["format"], "points")
+
+    def test_standard_input(self):
+        """It is read as a file is."""
+        text = ("Schaufel \u00e4\n" + self.TEXT).encode("latin-1")
+        done = subprocess.run([sys.executable, "-m", "rummyteak", "-"], cwd=ROOT, env=dict(os.environ, PYTHONPATH=str(ROOT / "python")), input=text, capture_output=True)
+        self.assertEqual(done.returncode, 0, done.stderr)
+        self.assertIn(b"line 1 passed over: Schaufel", done.stderr)
+        done = subprocess.run(f"exec {sys.executable} -m rummyteak - <&-", shell=True, cwd=ROOT, env=dict(os.environ, PYTHONPATH=str(ROOT / "python")), capture_output=True, text=True)
+        self.assertEqual((done.returncode, done.stdout), (66, ""))
+        self.assertIn("standard input", done.stderr)
 
     def test_wrong_calls(self):
         for args in (
@@ -729,7 +908,8 @@ class Command(unittest.TestCase):
         names = ["examples/thick.dat", "no such file", "examples/open.dat", "examples/compressor.dat"] * 3
         done = self.run_command(*names)
         lines = done.stdout.splitlines()
-        self.assertEqual((done.returncode, done.stderr), (66, ""))
+        self.assertEqual(done.returncode, 66)
+        self.assertEqual([line.split(":")[1].strip() for line in done.stderr.splitlines()], [name for name in names if name != "no such file"], "what is passed over is said of each")
         self.assertEqual([line.split(":")[0] for line in lines], names)
         self.assertEqual(lines[:4] * 3, lines)
         self.assertEqual(self.run_command("examples/thick.dat", "examples/open.dat", "--limit", "0").returncode, 14)
@@ -817,6 +997,8 @@ class Many(unittest.TestCase):
             env["PYTHONPATH"] = str(ROOT / "python")
             command = subprocess.run([sys.executable, "-m", "rummyteak", *names, "--limit", "500"], env=env, capture_output=True)
             self.assertEqual((many.stdout, many.returncode), (command.stdout, command.returncode), many.stderr.decode())
+            for said in command.stderr.splitlines():
+                self.assertIn(said, many.stderr)
             self.assertEqual(command.returncode, 66)
 
 

@@ -4,6 +4,7 @@ from __future__ import annotations
 
 import argparse
 import os
+import re
 import sys
 from concurrent.futures import ThreadPoolExecutor
 from threading import Lock
@@ -12,9 +13,9 @@ from typing import Any, Callable, List, Optional, Tuple
 from . import NO_LIMIT, SLOTS, WORDS
 from ._library import load
 from .blade import Options, worked_out
-from .files import Unreadable, read
+from .files import FORMATS, Reading, Unreadable, read
 from .picture import svg
-from .report import NO_INPUT, NO_LIBRARY, NO_OUTPUT, WRONG_CALL, as_csv, as_json, as_points, as_record, message, table, told
+from .report import NO_INPUT, NO_LIBRARY, NO_OUTPUT, WRONG_CALL, as_csv, as_json, as_points, as_record, message, said, table, told
 
 
 class _Parser(argparse.ArgumentParser):
@@ -33,6 +34,13 @@ def _whole(most: int) -> Any:
     return number
 
 
+def _columns(word: str) -> Tuple[int, int]:
+    found = re.fullmatch(r"([1-9]\d{0,5}),([1-9]\d{0,5})", word, re.ASCII)
+    if not found or found.group(1) == found.group(2):
+        raise argparse.ArgumentTypeError(f"{word} is no two columns, counted from 1, as 1,2")
+    return int(found.group(1)), int(found.group(2))
+
+
 def parser() -> argparse.ArgumentParser:
     """The options, one for every argument of the calls."""
     default = Options()
@@ -43,6 +51,10 @@ def parser() -> argparse.ArgumentParser:
         f"{NO_LIBRARY} no library, {NO_OUTPUT} a file that can't be written. Of several files it is the first that isn't 0.",
     )
     words.add_argument("files", nargs="+", metavar="FILE", help="x y pairs in lines; - is standard input. Several files: one line each")
+    words.add_argument("--columns", type=_columns, metavar="X,Y", help="the columns of x and of y, counted from 1, in lines that have more than two; the others are passed over")
+    words.add_argument("--decimal-comma", action="store_true", help="numbers are written as 60,5, and columns separated by semicolons or blanks")
+    words.add_argument("--skip", type=_whole(2**31), default=0, metavar="LINES", help="pass over so many lines at the start, whatever they say")
+    words.add_argument("--format", choices=FORMATS, default="auto", help="whether the first pair is a point, or counts the points of two surfaces that follow, each from the leading edge; auto goes by the file (%(default)s)")
     words.add_argument("--section-tol", type=float, default=default.section_tol, help="section tolerance in mm (%(default)s)")
     words.add_argument("--tol", type=float, default=default.tol, help="general tolerance in mm, no smaller than the section tolerance (%(default)s)")
     words.add_argument("--force-closed", action="store_true", help="close the section by force")
@@ -78,6 +90,11 @@ def options_of(args: argparse.Namespace) -> Options:
     )
 
 
+def reading_of(args: argparse.Namespace) -> Reading:
+    """How the files of a parsed command line are read."""
+    return Reading(args.columns, args.decimal_comma, args.skip, args.format)
+
+
 class _Count:
     """A count of those done, on a terminal: one line of standard error, taken back before anything else is written."""
 
@@ -91,41 +108,43 @@ class _Count:
                 sys.stderr.write(f"\r{self.done} of {self.of} done")
                 sys.stderr.flush()
 
-    def write(self, text: str) -> None:
+    def write(self, text: str, notes: str) -> None:
         with self.lock:
-            if self.live:
-                sys.stderr.write("\r\x1b[K")
-                sys.stderr.flush()
+            sys.stderr.write(("\r\x1b[K" if self.live else "") + notes)
+            sys.stderr.flush()
             sys.stdout.write(text)
             sys.stdout.flush()
 
 
-def _many(names: List[str], options: Options) -> int:
+def _many(names: List[str], options: Options, reading: Reading) -> int:
     status, count = 0, _Count(len(names))
     cores = len(os.sched_getaffinity(0)) if hasattr(os, "sched_getaffinity") else os.cpu_count() or 1
     with ThreadPoolExecutor(max_workers=cores) as pool:
 
-        def one(name: str) -> Tuple[str, int]:
-            answer = told(name, options)
+        def one(name: str) -> Tuple[str, str, int]:
+            answer = told(name, options, reading)
             count.more()
             return answer
 
-        for text, number in pool.map(one, names):
-            count.write(text)
+        for text, notes, number in pool.map(one, names):
+            count.write(text, notes)
             status = status or number
     return status
 
 
-def _one(name: str, options: Options, args: argparse.Namespace) -> int:
+def _one(name: str, options: Options, reading: Reading, args: argparse.Namespace) -> int:
+    notes: List[str] = []
     try:
-        blade = worked_out(read(name), options)
+        points = read(name, reading, notes.append)
     except Unreadable as error:
         sys.stderr.write(f"rummyteak: {error}\n")
         return NO_INPUT
+    sys.stderr.write(said(notes))
+    blade = worked_out(points, options)
     wanted: List[Tuple[Optional[str], Callable[[], str]]] = [
         (args.points, lambda: as_points(blade)),
         (args.csv, lambda: as_csv(blade)),
-        (args.json, lambda: as_json(name, blade, options)),
+        (args.json, lambda: as_json(name, blade, options, reading)),
         (args.svg, lambda: svg(blade, name)),
     ]
     if "-" not in (args.points, args.csv, args.json, args.svg):
@@ -164,8 +183,8 @@ def main(arguments: Optional[List[str]] = None) -> int:
         return NO_LIBRARY
     try:
         if len(args.files) > 1:
-            return _many(args.files, options_of(args))
-        return _one(args.files[0], options_of(args), args)
+            return _many(args.files, options_of(args), reading_of(args))
+        return _one(args.files[0], options_of(args), reading_of(args), args)
     except BrokenPipeError:
         # who read has gone; what is left unwritten has nowhere to go
         os.dup2(os.open(os.devnull, os.O_WRONLY), sys.stdout.fileno())

@@ -10,7 +10,7 @@ from typing import Any, Dict, List, Tuple
 
 from . import WORDS, Inscribed, write_record
 from .blade import Blade, Options, worked_out
-from .files import Unreadable, read
+from .files import Reading, Unreadable, read
 
 WRONG_CALL, NO_INPUT, NO_LIBRARY, NO_OUTPUT = 64, 66, 70, 73
 
@@ -87,13 +87,19 @@ def line(name: str, blade: Blade) -> str:
     return f"{name}: {len(blade.circles)} circles, {blade.units} units{thick}{long}{edge}; {blade.ending}\n"
 
 
-def told(name: str, options: Options) -> Tuple[str, int]:
-    """The line of a file and its exit status, whatever is in the file."""
+def told(name: str, options: Options, reading: Reading = Reading()) -> Tuple[str, str, int]:
+    """The line of a file, what is said of its reading, and its exit status, whatever is in the file."""
+    notes: List[str] = []
     try:
-        blade = worked_out(read(name), options)
+        blade = worked_out(read(name, reading, notes.append), options)
     except Unreadable as error:
-        return f"{error}\n", NO_INPUT
-    return line(name, blade), blade.number
+        return f"{error}\n", "", NO_INPUT
+    return line(name, blade), said(notes), blade.number
+
+
+def said(notes: List[str]) -> str:
+    """What is said of the reading of a file, as standard error has it."""
+    return "".join(f"rummyteak: {note}\n" for note in notes)
 
 
 def as_points(blade: Blade) -> str:
@@ -115,13 +121,14 @@ def as_record(blade: Blade) -> bytes:
     return write_record(blade.circles)
 
 
-def as_json(name: str, blade: Blade, options: Options) -> str:
+def as_json(name: str, blade: Blade, options: Options, reading: Reading) -> str:
     """Everything, each number so that it reads back to the same bits."""
     everything: Dict[str, Any] = {
         "section": name,
         "number": blade.number,
         "ending": WORDS[blade.number],
         "step": blade.step,
+        "reading": asdict(reading),
         "options": asdict(options),
         "points": list(blade.curve.numbers) if blade.curve else [],
         "closed": blade.curve.is_closed if blade.curve else None,
