@@ -7,7 +7,6 @@ built (include/build), and the files under the same names. What is printed, what
 
 from __future__ import annotations
 
-import argparse
 import sys
 from dataclasses import asdict
 from pathlib import Path
@@ -17,7 +16,8 @@ PYTHON = str(Path(__file__).resolve().parents[1] / "python")
 if PYTHON not in sys.path:
     sys.path.insert(0, PYTHON)
 
-from rummyteak.__main__ import options_of, parser, reading_of  # noqa: E402
+from rummyteak.__main__ import Parser, guarded, options_of, parser, reading_of  # noqa: E402
+from rummyteak.outputs import say, tell  # noqa: E402
 
 
 def told_there(name: str, python: str, options: Dict[str, Any], reading: Dict[str, Any]) -> Tuple[str, str, int]:
@@ -33,14 +33,14 @@ def told_there(name: str, python: str, options: Dict[str, Any], reading: Dict[st
 
 def main(arguments: Optional[List[str]] = None) -> int:
     """Maps the function over the folder, and prints the lines in order as they come."""
-    words = argparse.ArgumentParser(description=__doc__.splitlines()[0] if __doc__ else "", add_help=False)
+    words = Parser(description=__doc__.splitlines()[0] if __doc__ else "", add_help=False)
     words.add_argument("folder", type=Path)
     words.add_argument("--scheduler", help="the address of a running cluster")
     words.add_argument("--workers", type=int, default=2, help="workers of a cluster of its own (2)")
     mine, rest = words.parse_known_args(arguments)
-    names = sorted(str(path) for path in mine.folder.iterdir() if path.is_file())
+    names = sorted(str(path) for path in mine.folder.glob("*") if path.is_file())
     if not names:
-        sys.stderr.write(f"many.py: no file in {mine.folder}\n")
+        say(f"many.py: no file in {mine.folder}\n")
         return 66
     args = parser().parse_args([*rest, "--", *names])
 
@@ -51,8 +51,8 @@ def main(arguments: Optional[List[str]] = None) -> int:
     with Client(mine.scheduler or cluster) as client:
         for future in client.map(told_there, names, python=PYTHON, options=asdict(options_of(args)), reading=asdict(reading_of(args)), pure=False):
             text, notes, number = future.result()
-            sys.stderr.write(notes)
-            sys.stdout.write(text)
+            say(notes)
+            tell(text)
             status = status or number
     if cluster is not None:
         cluster.close()
@@ -60,4 +60,4 @@ def main(arguments: Optional[List[str]] = None) -> int:
 
 
 if __name__ == "__main__":
-    sys.exit(main())
+    sys.exit(guarded(main))

@@ -1,4 +1,5 @@
-"""The Python module and the command: the worked rows bit for bit, refusals, files, exit status, and what the command prints for the examples."""
+"""The Python module and the command: the worked rows bit for bit, refusals, the floating-point arithmetic that a call wants, files and what is passed over in them, outputs, exit status, and what the command
+prints for the examples."""
 
 from __future__ import annotations
 
@@ -9,12 +10,16 @@ import pickle
 import platform
 import pty
 import re
+import resource
 import shutil
+import signal
+import stat
 import struct
 import subprocess
 import sys
 import tempfile
 import threading
+import time
 import unittest
 from array import array
 from concurrent.futures import ThreadPoolExecutor
@@ -883,6 +888,125 @@ class Command(unittest.TestCase):
             self.run_command("examples/open.dat", "--between", "10", "80", "--points", names[1])
             self.assertEqual(list(read(names[1])), list(rt.between_lengths(told["points"], T, 10, 80).numbers), "a stretch reads back to the same bits")
 
+    def test_one_file_twice(self):
+        """An output that is the input, or another output, is a wrong call, by whatever name, and before anything is read."""
+        with tempfile.TemporaryDirectory() as name:
+            folder = Path(name)
+            section, text = folder / "a.dat", (ROOT / "examples" / "open.dat").read_text(encoding="utf-8")
+            section.write_text(text, encoding="utf-8")
+            (folder / "link").symlink_to("a.dat")
+            (folder / "there").symlink_to(folder, target_is_directory=True)
+            (folder / "new").symlink_to("not yet")
+            os.link(section, folder / "hard")
+            at = lambda *names: [str(folder / n) for n in names]  # noqa: E731
+            for args in (
+                at("a.dat") + ["--csv"] + at("a.dat"), at("a.dat") + ["--svg"] + at("link"), at("link") + ["--record"] + at("a.dat"), at("hard") + ["--json"] + at("a.dat"), at("a.dat") + ["--points"] + at("there/./a.dat"),
+                at("a.dat") + ["--points"] + at("there/link"), at("a.dat") + ["--csv"] + at("b") + ["--json"] + at("./b"), at("a.dat") + ["--csv"] + at("b") + ["--record"] + at("there/b"), at("a.dat") + ["--csv"] + at("new") + ["--svg"] + at("not yet"),
+                at("no such file") + ["--csv"] + at("no such file"), at("a.dat") + ["--csv", "-", "--json", "/dev/stdout"], at("a.dat") + ["--csv", ""], at("a.dat") + ["--record", "/dev/stdout"],
+            ):
+                with self.subTest(args=args):
+                    done = self.run_command(*args)
+                    self.assertEqual((done.returncode, done.stdout), (64, ""))
+                    self.assertEqual((section.read_text(encoding="utf-8"), sorted(p.name for p in folder.iterdir())), (text, ["a.dat", "hard", "link", "new", "there"]))
+            env = dict(os.environ, PYTHONPATH=str(ROOT / "python"), PYTHON=sys.executable)
+            for line in ('"$PYTHON" -m rummyteak a.dat >>a.dat', '"$PYTHON" -m rummyteak link a.dat >>a.dat', '"$PYTHON" -m rummyteak - --csv a.dat <a.dat', '"$PYTHON" -m rummyteak /dev/stdin --csv hard <a.dat', '"$PYTHON" -m rummyteak a.dat --csv b >b'):
+                with self.subTest(line=line):
+                    done = subprocess.run(line, shell=True, cwd=folder, env=env, capture_output=True, text=True)
+                    self.assertEqual(done.returncode, 64)
+                    self.assertIn("the same file", done.stderr)
+                    self.assertEqual(section.read_text(encoding="utf-8"), text)
+            # what is no file is nobody's
+            for line in ('"$PYTHON" -m rummyteak a.dat --csv /dev/null >/dev/null', '"$PYTHON" -m rummyteak - --csv /dev/null <a.dat >/dev/null', 'cat a.dat | "$PYTHON" -m rummyteak - --csv c | cat >/dev/null', '"$PYTHON" -m rummyteak a.dat --json d >e'):
+                self.assertEqual(subprocess.run(line, shell=True, cwd=folder, env=env, capture_output=True).returncode, 0, line)
+
+    def test_streams(self):
+        """/dev/stdout is standard output, and what is open already is written to as it is."""
+        want = self.run_command("examples/open.dat", "--csv", "-").stdout
+        self.assertIn("cx,cy,r", want)
+        self.assertEqual(self.run_command("examples/open.dat", "--csv", "/dev/stdout").stdout, want)
+        done = self.run_command("examples/open.dat", "--csv", "/dev/stderr")
+        self.assertEqual(done.stdout, (ROOT / "examples" / "open.txt").read_text(encoding="utf-8"))
+        self.assertTrue(done.stderr.endswith(want))
+        with tempfile.TemporaryDirectory() as folder:
+            env = dict(os.environ, PYTHONPATH=str(ROOT / "python"), PYTHON=sys.executable, F=folder)
+            subprocess.run('"$PYTHON" -m rummyteak examples/open.dat --csv - >"$F/a"; "$PYTHON" -m rummyteak examples/open.dat --csv /dev/stdout >"$F/b"; "$PYTHON" -m rummyteak examples/open.dat --csv /dev/fd/3 3>"$F/c" >"$F/d"', shell=True, cwd=ROOT, env=env, capture_output=True)
+            self.assertEqual([(Path(folder) / n).read_text() for n in "abc"], [want] * 3)
+            self.assertEqual((Path(folder) / "d").read_text(), done.stdout)
+            os.mkfifo(Path(folder) / "pipe")
+            got = subprocess.run('cat "$F/pipe" & "$PYTHON" -m rummyteak examples/open.dat --csv "$F/pipe" >/dev/null; wait', shell=True, cwd=ROOT, env=env, capture_output=True, text=True)
+            self.assertEqual(got.stdout, want)
+
+    def test_old_files(self):
+        """A file is replaced as a whole or not at all; the message names it."""
+        small = lambda: resource.setrlimit(resource.RLIMIT_FSIZE, (60_000, 60_000))  # noqa: E731
+        env = dict(os.environ, PYTHONPATH=str(ROOT / "python"))
+
+        def limited(*args):
+            return subprocess.run([sys.executable, "-m", "rummyteak", "examples/open.dat", *args], cwd=ROOT, env=env, capture_output=True, text=True, preexec_fn=small)
+
+        with tempfile.TemporaryDirectory() as name:
+            folder = Path(name)
+            csv, svg, points = folder / "a.csv", folder / "a.svg", folder / "a.dat"
+            for file in (csv, svg, points):
+                file.write_text("old")
+            table = (ROOT / "examples" / "open.txt").read_text(encoding="utf-8")
+            for args in (("--svg", svg), ("--csv", csv, "--svg", svg), ("--points", points, "--svg", svg), ("--csv", csv, "--svg", folder / "new.svg")):
+                done = limited(*map(str, args))
+                self.assertEqual((done.returncode, done.stdout), (73, table), "the table is told all the same")
+                self.assertIn(f"{args[-1]}: File too large", done.stderr)
+                self.assertEqual([file.read_text() for file in (csv, svg, points)], ["old"] * 3)
+                self.assertEqual(len(list(folder.iterdir())), 3, "nothing is left beside")
+            self.assertEqual(limited("--points", str(points)).returncode, 0)
+            self.assertEqual(points.stat().st_size, len(self.run_command("examples/open.dat", "--points", "-").stdout))
+            for where, words in (("/nowhere/a.svg", "No such file"), (str(folder), "Is a directory"), (str(folder / "new") + "/", "Is a directory"), (str(csv / "b"), "Not a directory"), ("/dev/full", "No space left")):
+                done = self.run_command("examples/open.dat", "--svg", where, "--csv", str(csv))
+                self.assertEqual(done.returncode, 73)
+                self.assertIn(f"rummyteak: {where}: {words}", done.stderr)
+                self.assertEqual(csv.read_text(), "old", "where one can't be written, none is replaced")
+            # rights stay, links lead on, and a new file has the rights that any new file has
+            csv.chmod(0o640)
+            (folder / "link").symlink_to("a.csv")
+            (folder / "to come").symlink_to("new.csv")
+            want = self.run_command("examples/open.dat", "--csv", "-").stdout
+            for where, file, mode in (("link", csv, 0o640), ("to come", folder / "new.csv", 0o666 & ~0o027), ("b.csv", folder / "b.csv", 0o666 & ~0o027)):
+                done = subprocess.run([sys.executable, "-m", "rummyteak", "examples/open.dat", "--csv", str(folder / where)], cwd=ROOT, env=env, capture_output=True, preexec_fn=lambda: os.umask(0o027))
+                self.assertEqual((done.returncode, file.read_text(), stat.S_IMODE(file.stat().st_mode)), (0, want, mode))
+            self.assertTrue((folder / "link").is_symlink() and (folder / "to come").is_symlink())
+            self.assertEqual(sorted(p.name for p in folder.iterdir()), ["a.csv", "a.dat", "a.svg", "b.csv", "link", "new.csv", "to come"])
+
+    def test_broken_runs(self):
+        """A run that is broken off while it writes leaves the old file; one that is interrupted leaves nothing beside it."""
+        with tempfile.TemporaryDirectory() as name:
+            folder = Path(name)
+            (folder / "a.csv").write_text("old")
+            os.mkfifo(folder / "pipe")
+            beside = lambda: [p.name for p in folder.iterdir() if p.name not in ("a.csv", "pipe")]  # noqa: E731
+            for sign, status, left in ((signal.SIGINT, 130, 0), (signal.SIGKILL, -signal.SIGKILL, 1)):
+                # nobody reads the pipe, and the run waits for one who does
+                run = subprocess.Popen(
+                    [sys.executable, "-m", "rummyteak", "examples/open.dat", "--csv", str(folder / "a.csv"), "--json", str(folder / "pipe")],
+                    cwd=ROOT, env=dict(os.environ, PYTHONPATH=str(ROOT / "python")), stdout=subprocess.DEVNULL, stderr=subprocess.DEVNULL,
+                    preexec_fn=lambda: signal.signal(signal.SIGINT, signal.SIG_DFL),
+                )
+                for _ in range(6000):
+                    if run.poll() is not None or (beside() and (folder / beside()[0]).stat().st_size > 20_000):
+                        break
+                    time.sleep(0.01)
+                run.send_signal(sign)
+                self.assertEqual((run.wait(60), (folder / "a.csv").read_text(), len(beside())), (status, "old", left))
+
+    @unittest.skipIf(os.geteuid() == 0, "every folder and every file may be written by this user")
+    def test_no_rights(self):
+        with tempfile.TemporaryDirectory() as name:
+            folder = Path(name)
+            (folder / "a.csv").write_text("old")
+            for place, mode in ((folder / "a.csv", 0o444), (folder, 0o555)):
+                place.chmod(mode)
+                done = self.run_command("examples/open.dat", "--csv", str(folder / "a.csv"))
+                place.chmod(0o755)
+                self.assertEqual((done.returncode, (folder / "a.csv").read_text()), (73, "old"))
+                self.assertIn("a.csv: Permission denied", done.stderr)
+
     def test_picture(self):
         def drawn(*args, given=None):
             text = self.run_command(*args, "--svg", "-", given=given).stdout
@@ -934,6 +1058,84 @@ class Command(unittest.TestCase):
         done = subprocess.run([str(ROOT / "rummyteak"), "examples/open.dat"], cwd=ROOT, env=env, capture_output=True, text=True)
         self.assertEqual((done.returncode, done.stdout), (70, ""))
         self.assertIn("include/build", done.stderr)
+
+    def test_other_libraries(self):
+        """A library that can't be loaded, lacks a function or changes the arithmetic is 70, with a sentence, and never 1."""
+        with tempfile.TemporaryDirectory() as name:
+            folder = Path(name)
+            (folder / "text.so").write_text("no library\n")
+            built = str(ROOT / "target" / "lib" / "librummyteak.a")
+            whole = ["-Wl,--whole-archive", built, "-Wl,--no-whole-archive"]
+            flush = "__attribute__((constructor)) static void flush(void) { __builtin_ia32_ldmxcsr(__builtin_ia32_stmxcsr() | 0x8040); }\n"
+            wanted = [("text", "can't be loaded", ""), ("nowhere", "can't be loaded", "")]
+            for library, words, source, more in (("lacks", "lacks rummyteak_from_points", "int rummyteak_sqrt(void) { return 0; }\n", []), ("flushes", "subnormal", flush, whole)):
+                if source is flush and platform.machine() != "x86_64":
+                    continue
+                (folder / f"{library}.c").write_text(source)
+                subprocess.run([os.environ.get("CC", "cc"), "-shared", "-fPIC", "-o", str(folder / f"{library}.so"), str(folder / f"{library}.c"), *more], check=True)
+                wanted.append((library, words, source))
+            for library, words, _ in wanted:
+                for files in (["examples/open.dat"], ["examples/open.dat", "examples/thick.dat"]):
+                    with self.subTest(library=library, files=files):
+                        env = dict(os.environ, PYTHONPATH=str(ROOT / "python"), RUMMYTEAK_LIBRARY=str(folder / f"{library}.so"))
+                        done = subprocess.run([sys.executable, "-m", "rummyteak", *files], cwd=ROOT, env=env, capture_output=True, text=True)
+                        self.assertEqual((done.returncode, done.stdout), (70, ""))
+                        self.assertIn(words, done.stderr)
+                        self.assertNotIn("Traceback", done.stderr)
+
+    def test_faults(self):
+        """Where the command itself breaks the status is 70, and where nobody takes its output 73; where standard error is shut it is what it would be."""
+        env = dict(os.environ, PYTHONPATH=str(ROOT / "python"), PYTHON=sys.executable)
+        for line, status, words in (
+            ('"$PYTHON" -c "import sys; from rummyteak.__main__ import guarded; sys.exit(guarded(lambda: 1 // 0))"', 70, "ZeroDivisionError"),
+            ('"$PYTHON" -m rummyteak examples/open.dat >/dev/full', 73, "standard output: No space left"),
+            ('"$PYTHON" -m rummyteak examples/open.dat --csv - >/dev/full', 73, "standard output: No space left"),
+            ('"$PYTHON" -m rummyteak examples/open.dat examples/thick.dat >/dev/full', 73, "standard output: No space left"),
+            ('"$PYTHON" -m rummyteak --help >/dev/full', 73, "standard output: No space left"),
+            ('"$PYTHON" -m rummyteak examples/open.dat >&-', 73, "standard output"),
+            ('"$PYTHON" -m rummyteak examples/open.dat 2>/dev/full', 0, ""),
+            ('"$PYTHON" -m rummyteak examples/open.dat 2>&-', 0, ""),
+            ('"$PYTHON" -m rummyteak examples/open.dat examples/thick.dat 2>&-', 0, ""),
+            ('"$PYTHON" -m rummyteak examples/open.dat --limit 3 2>/dev/full', 14, ""),
+            ('"$PYTHON" -m rummyteak nothing 2>&-', 66, ""),
+            ('"$PYTHON" -m rummyteak --tol 2>&-', 64, ""),
+        ):
+            with self.subTest(line=line):
+                done = subprocess.run(line, shell=True, cwd=ROOT, env=env, stdout=subprocess.DEVNULL, stderr=subprocess.PIPE, text=True)
+                self.assertEqual(done.returncode, status, done.stderr)
+                self.assertIn(words, done.stderr)
+                if status != 70:
+                    self.assertNotIn("Traceback", done.stderr)
+
+    def test_names(self):
+        """A file's name that is no text is no fault."""
+        with tempfile.TemporaryDirectory() as folder:
+            name = os.path.join(os.fsencode(folder), b"a\xff.dat")
+            shutil.copy(ROOT / "examples" / "open.dat", name)
+            for args in ((), (b"--svg", b"-"), (b"--json", b"-"), (b"--svg", os.path.join(os.fsencode(folder), b"\xfe.svg")), (name,)):
+                done = subprocess.run([os.fsencode(sys.executable), b"-m", b"rummyteak", name, *args], cwd=ROOT, env=dict(os.environ, PYTHONPATH=str(ROOT / "python"), PYTHONIOENCODING="utf-8:strict"), capture_output=True)
+                self.assertEqual(done.returncode, 0, done.stderr)
+                done.stdout.decode("utf-8")
+
+    def test_script_cannot_begin(self):
+        """Without Python, and with a module that can't be read, the status is the command's own; a module beside the sections is no part of the command."""
+        with tempfile.TemporaryDirectory() as name:
+            folder = Path(name)
+            (folder / "bin").mkdir()
+            (folder / "bin" / "dirname").symlink_to(shutil.which("dirname"))
+            shutil.copy(ROOT / "rummyteak", folder)
+            shutil.copytree(ROOT / "python", folder / "python")
+            env = dict(os.environ, RUMMYTEAK_LIBRARY=str(ROOT / "target" / "lib" / "librummyteak.so"))
+            run = lambda **more: subprocess.run([str(folder / "rummyteak"), str(ROOT / "examples" / "open.dat")], cwd=folder, env=dict(env, **more), capture_output=True, text=True)  # noqa: E731
+            (folder / "csv.py").write_text("raise SystemExit(1)\n")
+            self.assertEqual(run().returncode, 0)
+            done = run(PATH=str(folder / "bin"))
+            self.assertEqual((done.returncode, done.stdout), (70, ""))
+            self.assertIn("python3", done.stderr)
+            (folder / "python" / "rummyteak" / "blade.py").write_text("import nothing_of_this_name\n")
+            done = run()
+            self.assertEqual((done.returncode, done.stdout), (70, ""))
+            self.assertIn("nothing_of_this_name", done.stderr)
 
     def test_script(self):
         done = subprocess.run([str(ROOT / "rummyteak"), "examples/open.dat"], cwd=ROOT, capture_output=True, text=True)

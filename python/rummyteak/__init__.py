@@ -10,7 +10,7 @@ anything contiguous with the buffer protocol, copied only where it is read-only.
 range, points that are no pairs, and an array in which something is masked, are a ValueError; an array with a mask that covers nothing is read as any other.
 
 No call holds state, and other threads run while the library works. The results hold with rounding to nearest and with subnormal numbers, as arithmetic is when a program starts; where that of the
-calling thread has been changed, a call raises FloatingPointError.
+calling thread has been changed, a call raises FloatingPointError. Where the library can't be loaded, or lacks a function, a call raises an OSError that says so.
 """
 
 from __future__ import annotations

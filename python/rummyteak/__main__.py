@@ -3,25 +3,33 @@
 from __future__ import annotations
 
 import argparse
+import io
 import os
 import re
 import sys
+import traceback
 from concurrent.futures import ThreadPoolExecutor
 from threading import Lock
 from typing import Any, Callable, List, Optional, Tuple
 
 from . import NO_LIMIT, SLOTS, WORDS
-from ._library import load
+from ._library import NoLibrary, load
 from .blade import Options, worked_out
 from .files import FORMATS, Reading, Unreadable, read
+from .outputs import is_standard_output, put, same_file, say, tell
 from .picture import svg
-from .report import NO_INPUT, NO_LIBRARY, NO_OUTPUT, WRONG_CALL, as_csv, as_json, as_points, as_record, message, said, table, told
+from .report import FAULT, NO_INPUT, NO_OUTPUT, WRONG_CALL, as_csv, as_json, as_points, as_record, message, said, table, told
 
 
-class _Parser(argparse.ArgumentParser):
+class Parser(argparse.ArgumentParser):
+    """A wrong call has the command's own status, and not 2, which is a refusal's number."""
+
     def error(self, message: str) -> Any:
-        self.print_usage(sys.stderr)
-        self.exit(WRONG_CALL, f"{self.prog}: {message}\n")
+        say(f"{self.format_usage()}{self.prog}: {message}\n")
+        sys.exit(WRONG_CALL)
+
+    def print_help(self, file: Any = None) -> None:
+        tell(self.format_help())
 
 
 def _whole(most: int) -> Any:
@@ -44,11 +52,11 @@ def _columns(word: str) -> Tuple[int, int]:
 def parser() -> argparse.ArgumentParser:
     """The options, one for every argument of the calls."""
     default = Options()
-    words = _Parser(
+    words = Parser(
         prog="rummyteak",
         description="A measured blade section into inscribed circles, a camber line and an open-edge point.",
         epilog=f"Exit status: 0 a result, 1 to {max(WORDS)} the number of a refusal or a spent run, {WRONG_CALL} a wrong call, {NO_INPUT} a file that can't be read, "
-        f"{NO_LIBRARY} no library, {NO_OUTPUT} a file that can't be written. Of several files it is the first that isn't 0.",
+        f"{FAULT} no library that can be used, or a fault of the command, {NO_OUTPUT} a file that can't be written. Of several files it is the first that isn't 0.",
     )
     words.add_argument("files", nargs="+", metavar="FILE", help="x y pairs in lines; - is standard input. Several files: one line each")
     words.add_argument("--columns", type=_columns, metavar="X,Y", help="the columns of x and of y, counted from 1, in lines that have more than two; the others are passed over")
@@ -99,21 +107,18 @@ class _Count:
     """A count of those done, on a terminal: one line of standard error, taken back before anything else is written."""
 
     def __init__(self, of: int) -> None:
-        self.of, self.done, self.live, self.lock = of, 0, sys.stderr.isatty(), Lock()
+        self.of, self.done, self.live, self.lock = of, 0, sys.stderr is not None and sys.stderr.isatty(), Lock()
 
     def more(self, _: Any = None) -> None:
         with self.lock:
             self.done += 1
             if self.live:
-                sys.stderr.write(f"\r{self.done} of {self.of} done")
-                sys.stderr.flush()
+                say(f"\r{self.done} of {self.of} done")
 
     def write(self, text: str, notes: str) -> None:
         with self.lock:
-            sys.stderr.write(("\r\x1b[K" if self.live else "") + notes)
-            sys.stderr.flush()
-            sys.stdout.write(text)
-            sys.stdout.flush()
+            say(("\r\x1b[K" if self.live else "") + notes)
+            tell(text)
 
 
 def _many(names: List[str], options: Options, reading: Reading) -> int:
@@ -137,9 +142,9 @@ def _one(name: str, options: Options, reading: Reading, args: argparse.Namespace
     try:
         points = read(name, reading, notes.append)
     except Unreadable as error:
-        sys.stderr.write(f"rummyteak: {error}\n")
+        say(f"rummyteak: {error}\n")
         return NO_INPUT
-    sys.stderr.write(said(notes))
+    say(said(notes))
     blade = worked_out(points, options)
     wanted: List[Tuple[Optional[str], Callable[[], str]]] = [
         (args.points, lambda: as_points(blade)),
@@ -147,55 +152,77 @@ def _one(name: str, options: Options, reading: Reading, args: argparse.Namespace
         (args.json, lambda: as_json(name, blade, options, reading)),
         (args.svg, lambda: svg(blade, name)),
     ]
-    if "-" not in (args.points, args.csv, args.json, args.svg):
-        sys.stdout.write(table(name, blade))
-    for where, text in wanted:
-        if where == "-":
-            sys.stdout.write(text())
-        elif where is not None:
-            with open(where, "w", encoding="utf-8") as file:
-                file.write(text())
+    here = [text() for where, text in wanted if where is not None and is_standard_output(where)]
+    files = [(where, text().encode("utf-8", "replace")) for where, text in wanted if where is not None and not is_standard_output(where)]
     if args.record is not None:
-        with open(args.record, "wb") as record:
-            record.write(as_record(blade))
+        files.append((args.record, as_record(blade)))
+    failed = None
+    try:
+        put(files)
+    except OSError as error:
+        failed = error
+    # what was worked out is told where a file can't be written, too
+    tell(here[0] if here else table(name, blade))
     trouble = message(name, blade)
-    if trouble:
-        sys.stdout.flush()
-        sys.stderr.write(f"rummyteak: {trouble}\n")
+    say(f"rummyteak: {trouble}\n" if trouble else "")
+    if failed is not None:
+        raise failed
     return blade.number
+
+
+def _wrong(args: argparse.Namespace) -> str:
+    """What is wrong with a call before anything is read, in words; empty where nothing is."""
+    outputs = [(f"--{name}", getattr(args, name)) for name in ("points", "csv", "record", "json", "svg") if getattr(args, name) is not None]
+    names = ["-" if is_standard_output(name) else name for _, name in outputs]
+    if outputs and len(args.files) > 1:
+        return "--points, --csv, --record, --json and --svg go with one file"
+    if args.record is not None and is_standard_output(args.record):
+        return "--record goes to a file, not to standard output"
+    if "" in names:
+        return "an output has no name"
+    if len(set(names)) < len(names):
+        return "two outputs have the same name"
+    return same_file(args.files, outputs)
+
+
+def _run(arguments: Optional[List[str]]) -> int:
+    if isinstance(sys.stdout, io.TextIOWrapper):
+        # a file's name may hold what is no text
+        sys.stdout.reconfigure(errors="backslashreplace")
+    words = parser()
+    args = words.parse_args(arguments)
+    wrong = _wrong(args)
+    if wrong:
+        words.error(wrong)
+    load()
+    if len(args.files) > 1:
+        return _many(args.files, options_of(args), reading_of(args))
+    return _one(args.files[0], options_of(args), reading_of(args), args)
 
 
 def main(arguments: Optional[List[str]] = None) -> int:
     """Runs the command and returns its exit status."""
-    words = parser()
-    args = words.parse_args(arguments)
-    outputs = [name for name in (args.points, args.csv, args.record, args.json, args.svg) if name is not None]
-    if outputs and len(args.files) > 1:
-        words.error("--points, --csv, --record, --json and --svg go with one file")
-    if args.record == "-":
-        words.error("--record goes to a file, not to standard output")
-    if len(set(outputs)) < len(outputs):
-        words.error("two outputs have the same name")
+    return guarded(lambda: _run(arguments))
+
+
+def guarded(command: Callable[[], int]) -> int:
+    """The exit status of a command. Where it breaks that is never 1, which is a refusal's number."""
     try:
-        load()
-    except OSError as error:
-        sys.stderr.write(f"rummyteak: the library can't be loaded: {error}. include/build builds it.\n")
-        return NO_LIBRARY
-    try:
-        if len(args.files) > 1:
-            return _many(args.files, options_of(args), reading_of(args))
-        return _one(args.files[0], options_of(args), reading_of(args), args)
+        return command()
+    except KeyboardInterrupt:
+        return 130
+    except (NoLibrary, FloatingPointError) as error:
+        say(f"rummyteak: {error}\n")
     except BrokenPipeError:
-        # who read has gone; what is left unwritten has nowhere to go
-        os.dup2(os.open(os.devnull, os.O_WRONLY), sys.stdout.fileno())
+        # who read has gone
         return NO_OUTPUT
-    except OSError as error:
-        sys.stderr.write(f"rummyteak: {error.filename}: {error.strerror}\n")
-        return NO_OUTPUT
+    except Exception as error:
+        if isinstance(error, OSError) and error.filename is not None:
+            say(f"rummyteak: {error.filename}: {error.strerror}\n")
+            return NO_OUTPUT
+        say(f"{traceback.format_exc()}rummyteak: a fault of the command itself: {type(error).__name__}: {error}\n")
+    return FAULT
 
 
 if __name__ == "__main__":
-    try:
-        sys.exit(main())
-    except KeyboardInterrupt:
-        sys.exit(130)
+    sys.exit(main())

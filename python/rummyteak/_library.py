@@ -53,6 +53,10 @@ def _path() -> Path:
     return Path(__file__).resolve().parents[2] / "target" / "lib" / "librummyteak.so"
 
 
+class NoLibrary(OSError):
+    """The library can't be loaded, or lacks a function; in words."""
+
+
 _loaded: Any = None
 
 d, n, b, u = ctypes.c_double, ctypes.c_size_t, ctypes.c_bool, ctypes.c_uint32
@@ -111,12 +115,19 @@ _arguments = {
 
 
 def load() -> Any:
-    """The library, loaded once; OSError where it isn't built."""
+    """The library, loaded once; NoLibrary, which is an OSError, where that can't be."""
     global _loaded
     if _loaded is None:
-        library = ctypes.CDLL(str(_path()))
+        path = str(_path())
+        try:
+            library = ctypes.CDLL(path)
+        except OSError as error:
+            raise NoLibrary(f"the library can't be loaded: {error}. include/build builds it.") from None
         for name, arguments in _arguments.items():
-            function = getattr(library, "rummyteak_" + name)
+            try:
+                function = getattr(library, "rummyteak_" + name)
+            except AttributeError:
+                raise NoLibrary(f"{path} lacks rummyteak_{name}: it is another library, or one of another version. include/build builds it.") from None
             function.argtypes = arguments
             function.restype = u
         _loaded = library

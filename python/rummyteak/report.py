@@ -12,7 +12,7 @@ from . import WORDS, Inscribed, write_record
 from .blade import Blade, Options, worked_out
 from .files import Reading, Unreadable, read
 
-WRONG_CALL, NO_INPUT, NO_LIBRARY, NO_OUTPUT = 64, 66, 70, 73
+WRONG_CALL, NO_INPUT, FAULT, NO_OUTPUT = 64, 66, 70, 73
 
 # What to try where the library refuses.
 ADVICE = {
