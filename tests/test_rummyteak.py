@@ -776,6 +776,13 @@ class Command(unittest.TestCase):
         self.assertEqual(len(rt.from_points(got, T).points()), len(contour) // 2 + 1)
         self.assertIn("--format lednicer", self.unreadable(apart(f"{upper} {lower}", "")))
         self.assertEqual(self.read(apart(f"{upper} {lower}", ""), format="lednicer")[0], got)
+        # counts that fit are never a point by a guess, however they are written
+        back = apart(f"{upper}.0 {lower}.0").split("\n\n")
+        back[2] = "".join(f"{line}\n" for line in back[2].splitlines()[::-1])
+        for text in (apart(f"{upper}.0 {lower}.0", ""), apart(f"{upper}.000000 {lower}.000000", ""), apart(f"{float(upper):e} {float(lower):e}", ""), "\n\n".join(back)):
+            for words in (f"line 2 is a point, or counts the {upper + lower} points behind it", "--format points", "--format lednicer"):
+                self.assertIn(words, self.unreadable(text))
+            self.assertEqual(self.read(text, format="points")[0][:2], [upper, lower])
         # what doesn't fit is a point, or an error
         got, said = self.read(file("60.5 60", "").split("\n", 1)[1])
         self.assertEqual((got[:2], len(got), said), ([60.5, 60], len(contour) + 4, []))

@@ -261,7 +261,7 @@ class _Lines:
         elif whole and min(upper, lower) > 1 and gaps[:1] == [1] and len(gaps) < 3 and not (fit and gaps[1:] in ([], [1 + upper])):
             blocks = " and ".join(str(b - a) for a, b in zip(gaps, [*gaps[1:], behind + 1]))
             why = f"line {at} counts points as a Lednicer file does, and {blocks} stand behind it"
-        elif behind and self.written_as_counts and behind in (upper, lower, upper + lower):
+        elif fit or (behind and self.written_as_counts and behind in (upper, lower)):
             why = f"line {at} is a point, or counts the {behind} points behind it"
         elif behind and self.written_as_counts and self.decimals:
             why = f"line {at} is a point, or counts points, since its numbers are whole and all others have decimals"
