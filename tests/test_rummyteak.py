@@ -674,13 +674,14 @@ class Command(unittest.TestCase):
         for first in (
             "60.0 0.0756 0.0", "60.000000", "60", "2412 of NACA", "1st stage", "60,0;0,07", "60,5 0,1", "60.0mm 0.0756mm", "60.0|0.0756", "60.000000-0.075600", "6O.0 0.0756", "60.0 O.0756", "60.0 #0.0756", "60.0 0.07# touch",
             "\u22126.0 \u22120.7", "60.0;", ";60.0;0.07", "60.0,,0.07", "60_0 0_7", "0x3c 0", "60.0 0.0756 first", '"60.0,0.0756', '"60,0";"0,07"', "nan nan nan", "\ufffd60 0", "\u00ef\u00bb\u00bf60 0", "\u200b60 0", "[60 0", "\uff16\uff10 0", "1.0D+1 2.0D+0", ".5", "-.5 1 2", "1;60;0",
+            "- 60.0 0.0756", "--60.0 0.0756", "\u201460.0 0.0756", "\u20106.0 0.7", "\uff0d6.0 0.7", "\u00b160.0 0.0756", "\u201c60.0\u201d \u201c0.0756\u201d", "\u2018 60.0", "\u00ab60.0\u00bb", "<60.0 0.0756>", "- inf 0", "+ .5 0",
         ):
             with self.subTest(first=first):
                 self.assertIn("line 1 ", self.unreadable(f"{first}\n{rest}"))
                 self.assertIn("line 2 ", self.unreadable(f"A title\n{first}\n{rest}"))
                 self.assertIn("line 5 ", self.unreadable(f"{rest}{first}\n{rest}"))
                 self.assertEqual(self.read(f"{first}\n{rest}", skip=1), (numbers, ["line 1 passed over by --skip; line 1: " + first.replace("\u200b", "?")]))
-        for first in ("NACA 2412", "section of 60 0", "x y", "# 60 0", "(first) 60 0", "infinite 0 0", "-", "A\nB\nC 7 8"):
+        for first in ("NACA 2412", "section of 60 0", "x y", "# 60 0", "(first) 60 0", "infinite 0 0", "-", "-- NACA 2412 --", "<x> 60 0", "A\nB\nC 7 8"):
             with self.subTest(first=first):
                 got, said = self.read(f"{first}\n{rest}")
                 self.assertEqual((got, len(said)), (numbers, len(first.splitlines())))

@@ -11,6 +11,7 @@ import sys
 from array import array
 from dataclasses import dataclass, replace
 from typing import Callable, List, Optional, Tuple
+from unicodedata import category
 
 FORMATS = ("auto", "points", "lednicer")
 
@@ -45,9 +46,11 @@ def _written(point: str) -> "re.Pattern[str]":
 _POINT, _COMMA = _written(r"\."), _written(",")
 # A number as a count is written, and one with decimals.
 _WHOLE, _DECIMALS = re.compile(r"\+?\d+[.,]?", re.ASCII), re.compile(r"[.,]\d")
-# A number as a line may begin with it, however it goes on: the minus may be that of a text program. What may stand in front are separators, quotes, brackets, what isn't printed, and what an encoding left.
-_BEGUN = re.compile(r"[+\-\u2212\u2013]?[.,]?\d|[+-]?(?:nan|inf|infinity)\b", re.IGNORECASE)
-_IN_FRONT = " ,;\"'([{\ufffd\u00ef\u00bb\u00bf"
+# A number as a line may begin with it, however it goes on. What may stand in front are separators, signs, quotes, brackets, what isn't printed, and what an encoding left: these characters, and those of
+# these categories, which are dashes, brackets and quotes as a text program writes them.
+_BEGUN = re.compile(r"[.,]?\d|(?:nan|inf|infinity)\b", re.IGNORECASE)
+_IN_FRONT = " ,;\"'`+<>\u2212\u00b1\ufffd\u00ef\u00bb\u00bf"
+_KINDS_IN_FRONT = ("Pd", "Ps", "Pe", "Pi", "Pf")
 # A comment begins with # at the start of a line, or behind a separator; what is quoted is passed by.
 _COMMENT = re.compile(r'"[^"]*"|(?<![^\s,;])#')
 _SEPARATORS = " \t,;"
@@ -58,7 +61,7 @@ _QUOTED_OR = {sign: re.compile(rf'"[^"]*"|{sign}') for sign in ";,\t"}
 
 def _begins_with_number(text: str) -> bool:
     front = 0
-    while front < len(text) and (text[front] in _IN_FRONT or not text[front].isprintable()):
+    while front < len(text) and (text[front] in _IN_FRONT or not text[front].isprintable() or category(text[front]) in _KINDS_IN_FRONT):
         front += 1
     return bool(_BEGUN.match(text, front))
 
