@@ -24,6 +24,7 @@ import unittest
 from array import array
 from concurrent.futures import ThreadPoolExecutor
 from pathlib import Path
+from unittest import mock
 from xml.etree import ElementTree
 
 ROOT = Path(__file__).resolve().parents[1]
@@ -32,6 +33,7 @@ sys.path.insert(0, str(ROOT / "python"))
 import rummyteak as rt  # noqa: E402
 from rummyteak._library import call  # noqa: E402
 from rummyteak.files import Reading, Unreadable, read  # noqa: E402
+from rummyteak.outputs import put  # noqa: E402
 from rummyteak.report import ADVICE  # noqa: E402
 
 R = [0, 0, 8, 0, 8, 2, 0, 2, 0, 0]
@@ -923,7 +925,7 @@ class Command(unittest.TestCase):
                     self.assertEqual(done.returncode, 64)
                     self.assertIn("the same file", done.stderr)
                     self.assertEqual(section.read_text(encoding="utf-8"), text)
-            # what is no file is nobody's
+            # what is no file is never the same file
             for line in ('"$PYTHON" -m rummyteak a.dat --csv /dev/null >/dev/null', '"$PYTHON" -m rummyteak - --csv /dev/null <a.dat >/dev/null', 'cat a.dat | "$PYTHON" -m rummyteak - --csv c | cat >/dev/null', '"$PYTHON" -m rummyteak a.dat --json d >e'):
                 self.assertEqual(subprocess.run(line, shell=True, cwd=folder, env=env, capture_output=True).returncode, 0, line)
 
@@ -971,7 +973,7 @@ class Command(unittest.TestCase):
                 self.assertEqual(done.returncode, 73)
                 self.assertIn(f"rummyteak: {where}: {words}", done.stderr)
                 self.assertEqual(csv.read_text(), "old", "where one can't be written, none is replaced")
-            # rights stay, links lead on, and a new file has the rights that any new file has
+            # rights stay, what a link points to is replaced, and a new file has the rights that any new file has
             csv.chmod(0o640)
             (folder / "link").symlink_to("a.csv")
             (folder / "to come").symlink_to("new.csv")
@@ -981,6 +983,22 @@ class Command(unittest.TestCase):
                 self.assertEqual((done.returncode, file.read_text(), stat.S_IMODE(file.stat().st_mode)), (0, want, mode))
             self.assertTrue((folder / "link").is_symlink() and (folder / "to come").is_symlink())
             self.assertEqual(sorted(p.name for p in folder.iterdir()), ["a.csv", "a.dat", "a.svg", "b.csv", "link", "new.csv", "to come"])
+
+    def test_others_files(self):
+        """In a folder such as /tmp another user's file can't be replaced, though it may be written; so no file is."""
+        with tempfile.TemporaryDirectory() as name:
+            folder = Path(name)
+            folder.chmod(0o1777)
+            for file in ("a.csv", "b.csv"):
+                (folder / file).write_text("old")
+            new = [(str(folder / "new.csv"), b"new"), (str(folder / "a.csv"), b"new")]
+            with mock.patch("os.geteuid", lambda: os.stat(folder).st_uid + 1):
+                with self.assertRaisesRegex(PermissionError, "a.csv"):
+                    put(new)
+                self.assertEqual(sorted((p.name, p.read_text()) for p in folder.iterdir()), [("a.csv", "old"), ("b.csv", "old")])
+                put(new[:1])
+            put([(str(folder / "b.csv"), b"new")])
+            self.assertEqual(sorted((p.name, p.read_text()) for p in folder.iterdir()), [("a.csv", "old"), ("b.csv", "new"), ("new.csv", "new")])
 
     def test_broken_runs(self):
         """A run that is broken off while it writes leaves the old file; one that is interrupted leaves nothing beside it."""

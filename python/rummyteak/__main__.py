@@ -214,7 +214,7 @@ def guarded(command: Callable[[], int]) -> int:
     except (NoLibrary, FloatingPointError) as error:
         say(f"rummyteak: {error}\n")
     except BrokenPipeError:
-        # who read has gone
+        # nothing reads the output any more
         return NO_OUTPUT
     except Exception as error:
         if isinstance(error, OSError) and error.filename is not None:

@@ -75,7 +75,7 @@ def tell(text: str) -> None:
 
 
 def say(text: str) -> None:
-    """To standard error. Where nobody hears it, the exit status still tells."""
+    """To standard error. Where it can't be written, the exit status is what it would be."""
     with suppress(AttributeError, OSError, ValueError):
         sys.stderr.write(text)
         sys.stderr.flush()
@@ -93,6 +93,10 @@ def _beside(name: str, content: bytes) -> Tuple[str, str]:
         raise OSError(errno.EISDIR, os.strerror(errno.EISDIR))
     if old and not os.access(place, os.W_OK):
         raise OSError(errno.EACCES, os.strerror(errno.EACCES))
+    folder = os.stat(os.path.dirname(place))
+    if old and folder.st_mode & stat.S_ISVTX and os.geteuid() not in (0, old.st_uid, folder.st_uid):
+        # in such a folder, as /tmp, only these may move a file into the place of another
+        raise OSError(errno.EPERM, os.strerror(errno.EPERM))
     new = os.path.join(os.path.dirname(place), f".rummyteak-{os.getpid()}-{os.urandom(4).hex()}")
     number = os.open(new, os.O_WRONLY | os.O_CREAT | os.O_EXCL, 0o666)
     try:
@@ -123,7 +127,8 @@ def _is_file(name: str) -> bool:
 
 
 def put(contents: Sequence[Tuple[str, bytes]]) -> None:
-    """Writes each file beside its place, then moves them there, so that no old file changes where one of them can't be written; an OSError has its name. What is no file is written to as it is."""
+    """Writes each file beside its place, then moves them there, so that no old file changes where one of them can't be written there; an OSError has its name. What is no file is written to as it is. A run that is
+    broken off between two moves, or where a move fails, leaves what was moved before."""
     waiting: List[Tuple[str, str, str]] = []
     try:
         # the files first: a device or a pipe can't take back what was written to it
