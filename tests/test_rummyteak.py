@@ -1153,7 +1153,9 @@ class Command(unittest.TestCase):
             shutil.copytree(ROOT / "python", folder / "python")
             env = dict(os.environ, RUMMYTEAK_LIBRARY=str(ROOT / "target" / "lib" / "librummyteak.so"))
             run = lambda **more: subprocess.run([str(folder / "rummyteak"), str(ROOT / "examples" / "open.dat")], cwd=folder, env=dict(env, **more), capture_output=True, text=True)  # noqa: E731
-            (folder / "csv.py").write_text("raise SystemExit(1)\n")
+            # Python 3.13 imports linecache by itself
+            for module in ("csv.py", "linecache.py"):
+                (folder / module).write_text("raise SystemExit(1)\n")
             self.assertEqual(run().returncode, 0)
             done = run(PATH=str(folder / "bin"))
             self.assertEqual((done.returncode, done.stdout), (70, ""))
