@@ -1000,6 +1000,26 @@ class Command(unittest.TestCase):
             put([(str(folder / "b.csv"), b"new")])
             self.assertEqual(sorted((p.name, p.read_text()) for p in folder.iterdir()), [("a.csv", "old"), ("b.csv", "new"), ("new.csv", "new")])
 
+    def test_interrupted_moves(self):
+        """An interrupt while files are moved into place comes when all are there."""
+        with tempfile.TemporaryDirectory() as name:
+            files, move = [Path(name) / file for file in ("a", "b", "c")], os.replace
+            for file in files:
+                file.write_text("old")
+
+            def interrupted(new, place):
+                move(new, place)
+                signal.pthread_kill(threading.get_ident(), signal.SIGINT)
+
+            before = signal.signal(signal.SIGINT, signal.default_int_handler)
+            try:
+                with mock.patch("os.replace", interrupted), self.assertRaises(KeyboardInterrupt):
+                    put([(str(file), b"new") for file in files])
+            finally:
+                signal.signal(signal.SIGINT, before)
+            self.assertEqual(sorted((p.name, p.read_text()) for p in Path(name).iterdir()), [(file.name, "new") for file in files])
+            self.assertNotIn(signal.SIGINT, signal.pthread_sigmask(signal.SIG_BLOCK, ()))
+
     def test_broken_runs(self):
         """A run that is broken off while it writes leaves the old file; one that is interrupted leaves nothing beside it."""
         with tempfile.TemporaryDirectory() as name:

@@ -5,6 +5,7 @@ from __future__ import annotations
 import errno
 import os
 import re
+import signal
 import stat
 import sys
 from contextlib import contextmanager, suppress
@@ -126,9 +127,19 @@ def _is_file(name: str) -> bool:
     return stat.S_ISREG(found) or stat.S_ISDIR(found)
 
 
+@contextmanager
+def _uninterrupted() -> Iterator[None]:
+    """Signals that interrupt or end a run come afterwards."""
+    before = signal.pthread_sigmask(signal.SIG_BLOCK, (signal.SIGINT, signal.SIGTERM, signal.SIGHUP))
+    try:
+        yield
+    finally:
+        signal.pthread_sigmask(signal.SIG_SETMASK, before)
+
+
 def put(contents: Sequence[Tuple[str, bytes]]) -> None:
     """Writes each file beside its place, then moves them there, so that no old file changes where one of them can't be written there; an OSError has its name. What is no file is written to as it is. A run that is
-    broken off between two moves, or where a move fails, leaves what was moved before."""
+    killed between two moves, or where a move fails, leaves what was moved before."""
     waiting: List[Tuple[str, str, str]] = []
     try:
         # the files first: a device or a pipe can't take back what was written to it
@@ -140,11 +151,12 @@ def put(contents: Sequence[Tuple[str, bytes]]) -> None:
                 number = _open_already(name)
                 with open(name if number is None else os.dup(number), "wb") as stream:
                     stream.write(content)
-        while waiting:
-            name, new, place = waiting[0]
-            with _named(name):
-                os.replace(new, place)
-            del waiting[0]
+        with _uninterrupted():
+            while waiting:
+                name, new, place = waiting[0]
+                with _named(name):
+                    os.replace(new, place)
+                del waiting[0]
     finally:
         for _, new, _ in waiting:
             with suppress(OSError):
