@@ -945,6 +945,9 @@ class Command(unittest.TestCase):
             os.mkfifo(Path(folder) / "pipe")
             got = subprocess.run('cat "$F/pipe" & "$PYTHON" -m rummyteak examples/open.dat --csv "$F/pipe" >/dev/null; wait', shell=True, cwd=ROOT, env=env, capture_output=True, text=True)
             self.assertEqual(got.stdout, want)
+            got = subprocess.run('head -c 9 "$F/pipe" >/dev/null & "$PYTHON" -m rummyteak examples/open.dat --svg "$F/pipe" >/dev/null', shell=True, cwd=ROOT, env=env, capture_output=True, text=True)
+            self.assertEqual(got.returncode, 73)
+            self.assertIn(f"{folder}/pipe: Broken pipe", got.stderr)
 
     def test_old_files(self):
         """A file is replaced as a whole or not at all; the message names it."""

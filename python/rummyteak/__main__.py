@@ -213,10 +213,10 @@ def guarded(command: Callable[[], int]) -> int:
         return 130
     except (NoLibrary, FloatingPointError) as error:
         say(f"rummyteak: {error}\n")
-    except BrokenPipeError:
-        # nothing reads the output any more
-        return NO_OUTPUT
     except Exception as error:
+        if isinstance(error, BrokenPipeError) and error.filename in (None, "standard output"):
+            # nothing reads the output any more
+            return NO_OUTPUT
         if isinstance(error, OSError) and error.filename is not None:
             say(f"rummyteak: {error.filename}: {error.strerror}\n")
             return NO_OUTPUT
