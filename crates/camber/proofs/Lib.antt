@@ -1,6 +1,7 @@
 -- Laws that belong to no one function.
 pub mod MarchMachine
 pub mod MarchLaw
+pub mod MarchSlots
 pub mod EdgesLaw
 pub mod MarchLoop
 pub mod MarchFrom

@@ -7,7 +7,7 @@ use Rattle.std.specs.Prelude.{Ok, Err}
 use Rattle.errors.specs.Answer.{Answer, ◌>>=◌}
 use Rattle.errors.proofs.Laws.{not_14}
 use Rattle.runs.specs.Run.{under_limit, never}
-use Rattle.inscribed.specs.Store.{slots, circles_from}
+use Rattle.inscribed.specs.Store.{slots_within, circles_from}
 use Rattle.inscribed.specs.declared.Inscribed.{Inscribed}
 use Rattle.refine.specs.Machine.{refining, measure}
 use Rattle.refine.specs.Report.{refused_on_entry, ran}
@@ -29,9 +29,9 @@ module _ (m : Marched) where
       begun : (a : Answer Inscribed) → LimitLaw m.section m.tol m.store 0 (λ l. ran (after_start m (under_limit l) a)) (ran (after_start m never a)) (λ l. marched_from m (under_limit l) a) limit
       begun (Err r) = still_law m.section m.tol m.store 0 (ran (not_started m r)) (not-unfinished (Err r)) refl refl refl (not_14 r) limit
       begun (Ok c) =
-          run_law (march_step m.section m.tol (slots m.store)) (measure (slots m.store)) (march_falls m.section m.tol (slots m.store)) (march_grows m.section m.tol (slots m.store)) m.section m.tol m.store 0
+          run_law (march_step m.section m.tol (slots_within m.slot_limit m.store)) (measure (slots_within m.slot_limit m.store)) (march_falls m.section m.tol (slots_within m.slot_limit m.store)) (march_grows m.section m.tol (slots_within m.slot_limit m.store)) m.section m.tol m.store 0
           (refining [] (c ∷ [])) (unfold circles_from in refl) (omega arith) (start_sound c)
-          (march_sound_goes m.section m.tol 0 (slots m.store)) (march_sound_pays m.section m.tol 0 (slots m.store)) limit
+          (march_sound_goes m.section m.tol 0 (slots_within m.slot_limit m.store)) (march_sound_pays m.section m.tol 0 (slots_within m.slot_limit m.store)) limit
 
       go : (e : Answer (Unit {0})) → LimitLaw m.section m.tol m.store 0 (λ l. march_after m (under_limit l) e) (march_after m never e) (λ l. marched_from m (under_limit l) (e >>= λ passed. start_of m)) limit
       go (Err r) = still_law m.section m.tol m.store 0 (refused_on_entry r m.store) tt refl refl refl (not_14 r) limit

@@ -27,9 +27,9 @@ use Rattle.errors.specs.declared.Refusal.TheVariants.{NoAdvance, StackFull, Stor
 
 -- ---- what an advance leads to: the list stays as it is, and the measure falls
 
-record Advanced (slots : ℕ) (cs : List Inscribed) (k : ℕ) (t : State) : Type 0 where
-  kept : circles_in t ≡ cs
-  falls : measure slots t < measure slots (advancing cs k)
+pub record Advanced (slots : ℕ) (cs : List Inscribed) (k : ℕ) (t : State) : Type 0 where
+  pub kept : circles_in t ≡ cs
+  pub falls : measure slots t < measure slots (advancing cs k)
 
 circle_advanced : (slots : ℕ) (cs : List Inscribed) (k : ℕ) (a : Answer Inscribed) → Advanced slots cs k (after_circle cs a)
 unfolding after_circle measure
@@ -47,7 +47,7 @@ line_advanced ns tol slots cs k (Ok None) = go (ltb k 3) (ltb-true k 3)
 line_advanced ns tol slots cs k (Ok (Some x)) = circle_advanced slots cs k (from_crossing ns tol x)
 
 module _ (ns : List Float) (tol : Float) (slots : ℕ) (cs : List Inscribed) (c : Inscribed) (k : ℕ) where
-  advance-goes : {A : Type 0} (a : Answer MarchAhead) (t : State) → advance_move ns tol cs c k a ≡ goes t → A
+  pub advance-goes : {A : Type 0} (a : Answer MarchAhead) (t : State) → advance_move ns tol cs c k a ≡ goes t → A
   unfolding advance_move
   advance-goes (Err n) t p = no_goes p
   advance-goes (Ok done) t p = no_goes p
@@ -57,7 +57,7 @@ module _ (ns : List Float) (tol : Float) (slots : ℕ) (cs : List Inscribed) (c 
       go true q = no_goes q
       go false q = let z : ◌≡◌ {A = ℕ} 0 1 = cc in absurd (omega arith)
 
-  advance-pays : (a : Answer MarchAhead) (t : State) → advance_move ns tol cs c k a ≡ pays t → Advanced slots cs k t
+  pub advance-pays : (a : Answer MarchAhead) (t : State) → advance_move ns tol cs c k a ≡ pays t → Advanced slots cs k t
   unfolding advance_move
   advance-pays (Err n) t p = no_pays p
   advance-pays (Ok done) t p = no_pays p

@@ -4,7 +4,7 @@ use Rattle.errors.specs.Answer.{Answer}
 use Rattle.line2.specs.Lines.{reversed_line}
 use Rattle.line2.specs.declared.Line2.{Line2}
 use Rattle.runs.specs.Run.{Ending, ended, spent, unfinished, Final, under_limit}
-use Rattle.inscribed.specs.Store.{width, slots, stored}
+use Rattle.inscribed.specs.Store.{width, slots_within, stored}
 use Rattle.inscribed.specs.Lists.{turned}
 use Rattle.inscribed.specs.declared.Inscribed.{Inscribed}
 use Rattle.halving.specs.Halving.{inscribed_on}
@@ -34,7 +34,7 @@ second_half ns tol l slots full old cs u = second_march ns tol slots full (store
 -- "Refused in the first half it leaves the marched order"
 unfoldable pub after_first : Marched → (ℕ → Bool) → Final State End → Ending End → RunReport
 unfolding second_half
-after_first m full o (ended (Ok done)) = second_half m.section m.tol m.line (slots m.store) full m.store (circles_in o.state) o.units
+after_first m full o (ended (Ok done)) = second_half m.section m.tol m.line (slots_within m.slot_limit m.store) full m.store (circles_in o.state) o.units
 after_first m full o (ended (Err r)) = reported m.store o
 after_first m full o spent = reported m.store o
 after_first m full o unfinished = reported m.store o

@@ -10,7 +10,7 @@ use Rattle.camber.specs.declared.march.MarchRun.{MarchRun}
 use Rattle.queries.specs.declared.Crossing.{Crossing}
 use Rattle.queries.specs.declared.HitEdges.{HitEdges}
 use Rattle.runs.specs.Run.{Move, ends, goes, pays, ended, Final, under_limit, never, whole}
-use Rattle.inscribed.specs.Store.{slots}
+use Rattle.inscribed.specs.Store.{slots_within}
 use Rattle.inscribed.specs.declared.Inscribed.{Inscribed}
 use Rattle.halving.specs.Halving.{from_crossing, inscribed_on}
 use Rattle.refine.specs.Machine.{State, refining, advancing, stopped, circles_in, End, finished, refine_move, measure}
@@ -51,7 +51,7 @@ march_step ns tol slots (stopped cs r) = ends (Err r)
 abbrev pub march_run : List Float → Float → ℕ → (ℕ → Bool) → State → ℕ → Final State End
 march_run ns tol slots full s u = whole (march_step ns tol slots) (measure slots) full s u
 
--- ---- a march handed in: a section with its tolerance, a general tolerance, a line and a store
+-- ---- a march handed in: a section with its tolerance, a general tolerance, a line, and a store with the slot limit that the entry has
 
 pub record Marched : Type 0 where
   pub section : List Float
@@ -59,6 +59,7 @@ pub record Marched : Type 0 where
   pub tol : Float
   pub line : Line2
   pub store : List Float
+  pub slot_limit : ℕ
 
 -- the entry tests; a march is held to 23
 abbrev pub march_entry : Marched → Answer (Unit {0})
@@ -70,7 +71,7 @@ start_of m = inscribed_on m.section m.tol m.line
 
 -- "Its circle waits first."
 abbrev pub started_run : Marched → (ℕ → Bool) → Inscribed → Final State End
-started_run m full c = march_run m.section m.tol (slots m.store) full (refining [] (c ∷ [])) 0
+started_run m full c = march_run m.section m.tol (slots_within m.slot_limit m.store) full (refining [] (c ∷ [])) 0
 
 -- refused at its start, a run is no refusal on entry: "count 0 and units 0 come with it"
 abbrev pub not_started : Marched → Refusal → RunReport

@@ -1,6 +1,7 @@
 // Extraction: a march in each direction from a reference line.
 ghost use Rattle.std.specs.Prelude.{◌≡◌, Float};
 ghost use Rattle.runs.specs.Run.{under_limit};
+ghost use Rattle.inscribed.specs.Store.{most_slots};
 ghost use Rattle.refine.specs.Report.{listed_run, listed_called};
 ghost use Rattle.camber.specs.Extraction.{first_half, extraction_of};
 
@@ -22,7 +23,7 @@ fn both_halves(
     circle: Inscribed,
     limit: u32,
 ) -> Run<()>
-    ensures { (section_tol : Float) → listed_run result store.new ≡ first_half (record { section = section.now.points.now; section_tol = section_tol; tol = tol; line = line; store = store.old }) (under_limit limit) circle }
+    ensures { (section_tol : Float) → listed_run result store.new ≡ first_half (record { section = section.now.points.now; section_tol = section_tol; tol = tol; line = line; store = store.old; slot_limit = most_slots }) (under_limit limit) circle }
 {
     let mut circles = CirclesStore::new(store, 0);
     let first = crate::march::march_from(
@@ -52,7 +53,7 @@ pub fn extract_circles(
     store: &mut [f64],
     limit: u32,
 ) -> Result<Run<()>, Refusal>
-    ensures { listed_called result store.new ≡ extraction_of (record { section = section.now; section_tol = section_tol; tol = tol; line = line; store = store.old }) limit }
+    ensures { listed_called result store.new ≡ extraction_of (record { section = section.now; section_tol = section_tol; tol = tol; line = line; store = store.old; slot_limit = most_slots }) limit }
 {
     let curve = crate::march::entered(section, section_tol, tol, line)?;
     match halving::checked::inscribed_on(&curve, tol, line) {

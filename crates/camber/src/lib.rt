@@ -3,4 +3,5 @@
 
 pub mod extraction;
 mod halves;
+pub mod laws;
 pub mod march;

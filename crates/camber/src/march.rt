@@ -4,6 +4,7 @@ ghost use Rattle.errors.specs.Answer.{passed};
 ghost use Rattle.std.specs.Prelude.{◌≡◌, List, [], ◌∷◌, ◌≤◌, Float};
 ghost use Rattle.curve2.specs.Entry.{finer_general};
 ghost use Rattle.runs.specs.Run.{under_limit};
+ghost use Rattle.inscribed.specs.Store.{most_slots, cell_slots};
 ghost use Rattle.refine.specs.Machine.{refining};
 ghost use Rattle.refine.specs.Report.{listed_run, listed_called};
 ghost use Rattle.refine.specs.Code.{Reports};
@@ -17,6 +18,7 @@ use curve2::entering;
 use errors::Refusal;
 use inscribed::Inscribed;
 use inscribed::checked::CirclesStore;
+use inscribed::store::{CELL_SLOTS, MOST_SLOTS};
 use line2::Line2;
 use queries::{Crossing, HitEdges};
 use refine::{Run, RunEnd};
@@ -90,28 +92,58 @@ pub(crate) fn march_from(
     }
 }
 
-// The march from a crossing on: its circle waits first.
+// The march from a crossing on, into a store that has no more slots than `slot_limit`: its circle waits first.
 #[tactic(auto, unfolding(crate::specs::March::after_start))]
 fn march_on(
     section: &Curve2<'_>,
     tol: f64,
     crossing: Crossing,
     store: &mut [f64],
+    slot_limit: usize,
     limit: u32,
 ) -> Run<()>
-    ensures { (section_tol : Float) (line : Line2) → listed_run result store.new ≡ after_start (record { section = section.now.points.now; section_tol = section_tol; tol = tol; line = line; store = store.old }) (under_limit limit) (from_crossing section.now.points.now tol crossing) }
+    requires { slot_limit ≤ most_slots }
+    ensures { (section_tol : Float) (line : Line2) → listed_run result store.new ≡ after_start (record { section = section.now.points.now; section_tol = section_tol; tol = tol; line = line; store = store.old; slot_limit = slot_limit }) (under_limit limit) (from_crossing section.now.points.now tol crossing) }
 {
     match halving::checked::from_crossing(section, tol, crossing) {
         Ok(c) => {
-            let mut circles = CirclesStore::new(store, 0);
+            let mut circles = CirclesStore::with_slot_limit(store, slot_limit, 0);
             march_from(section, tol, &mut circles, c, Units::none_taken(limit))
         }
         Err(r) => Run::refused(r, 0, 0),
     }
 }
 
-// One march from a line, into a store that holds no circle yet, within a limit of units; with the edges of the line's crossing once that is found.
+// A march into a store that has no more slots than `slot_limit`: what both entries call.
 #[tactic(auto, unfolding(crate::specs::March::march_after, halving::specs::Halving::inscribed_on, crate::specs::March::found_edges, crate::specs::March::after_start))]
+fn march_with_slots(
+    section: &[f64],
+    section_tol: f64,
+    tol: f64,
+    line: Line2,
+    store: &mut [f64],
+    slot_limit: usize,
+    limit: u32,
+) -> Result<MarchRun, Refusal>
+    requires { slot_limit ≤ most_slots }
+    ensures { listed_march result store.new ≡ march_told (record { section = section.now; section_tol = section_tol; tol = tol; line = line; store = store.old; slot_limit = slot_limit }) limit }
+{
+    let curve = entered(section, section_tol, tol, line)?;
+    match queries::asked(queries::checked::crossing_line(&curve, line)) {
+        Ok(crossing) => Ok(MarchRun {
+            run: march_on(&curve, tol, crossing, store, slot_limit, limit),
+            edges: Some(crossing.edges),
+        }),
+        Err(r) => Ok(MarchRun {
+            run: Run::refused(r, 0, 0),
+            edges: None,
+        }),
+    }
+}
+
+/// One march from a line, into a store that holds no circle yet and 1,024 at most, within a limit of units; with the edges of the line's crossing once that is found.
+///
+/// Refused on entry, with the store untouched: 1, 2, 3, 23, 6. Refused later, or spent (14): the store keeps the circles that it accepted.
 pub fn march(
     section: &[f64],
     section_tol: f64,
@@ -120,17 +152,21 @@ pub fn march(
     store: &mut [f64],
     limit: u32,
 ) -> Result<MarchRun, Refusal>
-    ensures { listed_march result store.new ≡ march_told (record { section = section.now; section_tol = section_tol; tol = tol; line = line; store = store.old }) limit }
+    ensures { listed_march result store.new ≡ march_told (record { section = section.now; section_tol = section_tol; tol = tol; line = line; store = store.old; slot_limit = most_slots }) limit }
 {
-    let curve = entered(section, section_tol, tol, line)?;
-    match queries::asked(queries::checked::crossing_line(&curve, line)) {
-        Ok(crossing) => Ok(MarchRun {
-            run: march_on(&curve, tol, crossing, store, limit),
-            edges: Some(crossing.edges),
-        }),
-        Err(r) => Ok(MarchRun {
-            run: Run::refused(r, 0, 0),
-            edges: None,
-        }),
-    }
+    march_with_slots(section, section_tol, tol, line, store, MOST_SLOTS, limit)
+}
+
+/// `march` for the cell, whose program has slots for 256: the store holds 256 circles at most, however long it is.
+pub fn march_cell(
+    section: &[f64],
+    section_tol: f64,
+    tol: f64,
+    line: Line2,
+    store: &mut [f64],
+    limit: u32,
+) -> Result<MarchRun, Refusal>
+    ensures { listed_march result store.new ≡ march_told (record { section = section.now; section_tol = section_tol; tol = tol; line = line; store = store.old; slot_limit = cell_slots }) limit }
+{
+    march_with_slots(section, section_tol, tol, line, store, CELL_SLOTS, limit)
 }

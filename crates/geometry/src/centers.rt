@@ -28,7 +28,7 @@ fn has_bad_point(points: &[Point2]) -> bool
 pub fn has_bad_center(store: &[f64], count: usize) -> bool
     ensures { result ≡ bad_centers store.now count }
 {
-    let n = count.min(store::slots_in(store.len()));
+    let n = count.min(store::slots_in(store.len(), store::MOST_SLOTS));
     (0..n).any(|k| is_bad_point(circle_at(store, k).center()))
 }
 

@@ -29,8 +29,16 @@ circle_at ns k = circle_from ns (k * width)
 abbrev pub most_slots : ℕ
 most_slots = 1024
 
+-- the cell's program has slots for 256: by its entries "a store holds at most 256"
+abbrev pub cell_slots : ℕ
+cell_slots = 256
+
+-- of a store that holds no more than a slot limit
+abbrev pub slots_within : ℕ → List Float → ℕ
+slots_within slot_limit ns = min (length ns / width) slot_limit
+
 abbrev pub slots : List Float → ℕ
-slots ns = min (length ns / width) most_slots
+slots ns = slots_within most_slots ns
 
 -- the circles in the first n slots, first to last
 unfoldable pub circles_from : List Float → ℕ → ℕ → List Inscribed
@@ -70,12 +78,18 @@ any_bad [] = false
 any_bad (c ∷ cs) = bad_circle c || any_bad cs
 
 -- "of a store only the circles in use, as far as it holds them, are tested"
+abbrev pub bad_store_within : ℕ → List Float → ℕ → Bool
+bad_store_within slot_limit ns count = any_bad (circles_of ns (min count (slots_within slot_limit ns)))
+
 abbrev pub bad_store : List Float → ℕ → Bool
-bad_store ns count = any_bad (circles_of ns (min count (slots ns)))
+bad_store ns count = bad_store_within most_slots ns count
 
 -- 4: "stated count above what the store holds"
+abbrev pub bad_count_within : ℕ → List Float → ℕ → Bool
+bad_count_within slot_limit ns count = ltb (slots_within slot_limit ns) count
+
 abbrev pub bad_store_count : List Float → ℕ → Bool
-bad_store_count ns count = ltb (slots ns) count
+bad_store_count ns count = bad_count_within most_slots ns count
 
 -- whether the circles from a place on can be handed out: 2 for a bad circle in use, 4 for a count above what the store holds or a place above the count
 unfoldable pub circles_entry : List Float → ℕ → ℕ → Answer (Unit {0})

@@ -2,11 +2,11 @@
 ghost use Rattle.std.specs.Prelude.{◌≡◌, ℕ, List, Float, slice_index_or, map, reverse, ◌+◌, ◌-◌, ◌*◌, ◌≤◌, ◌<◌, length};
 ghost use Rattle.inscribed.specs.declared.Inscribed.{Inscribed as Circle};
 ghost use Rattle.inscribed.specs.Circles.{reversed_points};
-ghost use Rattle.inscribed.specs.Store.{slots as slots_of, width, most_slots, circle_at, circles_of, stored};
+ghost use Rattle.inscribed.specs.Store.{slots as slots_of, slots_within, width, most_slots, circle_at, circles_of, stored};
 ghost use Rattle.inscribed.specs.Code.{with_circle};
 ghost use Rattle.inscribed.specs.Lists.{turned, front_and_back, tmax, spacing_after, average_spacing};
 
-use crate::store::{WIDTH, slots_in};
+use crate::store::{MOST_SLOTS, WIDTH, slots_in};
 use crate::{FrontAndBack, Inscribed};
 use errors::Refusal;
 
@@ -133,18 +133,32 @@ impl CirclesInUse<'_> {
 }
 
 impl<'a> CirclesStore<'a> {
+    /// A store that has no more slots than `slot_limit`, of which `count` are in use.
+    pub fn with_slot_limit(
+        store: &'a mut [f64],
+        slot_limit: usize,
+        count: usize,
+    ) -> CirclesStore<'a>
+        requires held { (count * width ≤ length store.old) × (count ≤ slot_limit) }
+        requires few { slot_limit ≤ most_slots }
+        ensures same { result.store.ghost_name ≡ store.entry.ghost_name }
+        ensures held { (result.store.now ≡ store.entry.now) × (result.slots ≡ slots_within slot_limit store.entry.now) × (result.count ≡ count) }
+    {
+        let slots = slots_in(store.len(), slot_limit);
+        CirclesStore {
+            store,
+            slots,
+            count,
+        }
+    }
+
     // A store of which `count` circles are in use.
     pub fn new(store: &'a mut [f64], count: usize) -> CirclesStore<'a>
         requires { (count * width ≤ length store.old) × (count ≤ most_slots) }
         ensures same { result.store.ghost_name ≡ store.entry.ghost_name }
         ensures held { (result.store.now ≡ store.entry.now) × (result.slots ≡ slots_of store.entry.now) × (result.count ≡ count) }
     {
-        let slots = slots_in(store.len());
-        CirclesStore {
-            store,
-            slots,
-            count,
-        }
+        CirclesStore::with_slot_limit(store, MOST_SLOTS, count)
     }
 }
 

@@ -1,7 +1,7 @@
 // The store of circles: the caller's numbers, `WIDTH` to a circle, packed from the start. A circle's numbers are read by `circle_at` and written by `put_circle` alone.
 ghost use Rattle.std.specs.Prelude.{◌≡◌, IfOk, min, ◌/◌};
 ghost use Rattle.errors.specs.Answer.{passed};
-ghost use Rattle.inscribed.specs.Store.{width, most_slots, finite_points, bad_length, bad_circle, bad_store, bad_store_count, circles_entry, numbers_from};
+ghost use Rattle.inscribed.specs.Store.{width, finite_points, bad_length, bad_circle, bad_store, bad_store_within, bad_store_count, bad_count_within, circles_entry, numbers_from};
 
 use crate::{Inscribed, checked};
 use errors::{Finite, Refusal};
@@ -12,11 +12,14 @@ pub const WIDTH: usize = 9;
 // How many circles a store holds at most.
 pub const MOST_SLOTS: usize = 1024;
 
-// How many circles a store of `len` numbers holds.
-pub fn slots_in(len: usize) -> usize
-    ensures { result ≡ min (len / width) most_slots }
+/// How many circles a store holds at most by the entries for the cell.
+pub const CELL_SLOTS: usize = 256;
+
+// How many circles a store of `len` numbers holds that has no more slots than `slot_limit`.
+pub fn slots_in(len: usize, slot_limit: usize) -> usize
+    ensures { result ≡ min (len / width) slot_limit }
 {
-    (len / WIDTH).min(MOST_SLOTS)
+    (len / WIDTH).min(slot_limit)
 }
 
 // Whether the centre and both contacts are finite.
@@ -41,18 +44,33 @@ pub fn is_bad_circle(c: Inscribed) -> bool
     !has_finite_points(c) || is_bad_length(c.r) || is_bad_length(c.l0) || is_bad_length(c.l1)
 }
 
-// Test 2 of a store: a bad circle in use, as far as the store holds them.
+/// Test 2 of a store that has no more slots than `slot_limit`: a bad circle in use, as far as the store holds them.
+pub fn has_bad_within(store: &[f64], slot_limit: usize, count: usize) -> bool
+    ensures { result ≡ bad_store_within slot_limit store.now count }
+{
+    let held = count.min(slots_in(store.len(), slot_limit));
+    (0..held).any(|k| is_bad_circle(checked::circle_at(store, k)))
+}
+
+// Test 2 of a store.
 pub fn has_bad_circle(store: &[f64], count: usize) -> bool
     ensures { result ≡ bad_store store.now count }
 {
-    (0..count.min(slots_in(store.len()))).any(|k| is_bad_circle(checked::circle_at(store, k)))
+    has_bad_within(store, MOST_SLOTS, count)
 }
 
-// Test 4 of a store: a count above what it holds.
+/// Test 4 of a store that has no more slots than `slot_limit`: a count above what it holds.
+pub fn is_bad_count_within(store: &[f64], slot_limit: usize, count: usize) -> bool
+    ensures { result ≡ bad_count_within slot_limit store.now count }
+{
+    slots_in(store.len(), slot_limit) < count
+}
+
+// Test 4 of a store.
 pub fn is_bad_store_count(store: &[f64], count: usize) -> bool
     ensures { result ≡ bad_store_count store.now count }
 {
-    slots_in(store.len()) < count
+    is_bad_count_within(store, MOST_SLOTS, count)
 }
 
 // Whether the circles from a place on can be handed out.

@@ -12,7 +12,7 @@ ghost use Rattle.record.specs.Record.{write_entry, write_record, read_record, Wr
 use arrayvec::ArrayVec;
 use errors::Refusal;
 use inscribed::checked::CirclesInUse;
-use inscribed::store::slots_in;
+use inscribed::store::{MOST_SLOTS, slots_in};
 
 // The entry tests of a writer. The circles in use are handed on where they passed.
 #[tactic(auto, unfolding(crate::specs::Record::write_entry))]
@@ -47,7 +47,7 @@ pub fn read_record(bytes: &[u8], store: &mut [f64]) -> Result<usize, Refusal>
     ensures { ReadInto (read_record bytes.now (slots store.old)) store.old store.new result }
 {
     let mut circles = ArrayVec::new();
-    let rest = reading::read_counted(bytes, slots_in(store.len()), &mut circles)?;
+    let rest = reading::read_counted(bytes, slots_in(store.len(), MOST_SLOTS), &mut circles)?;
     if !rest.is_empty() {
         return Err(Refusal::RecordLength);
     }

@@ -68,6 +68,13 @@ still_law ns tol old count c ends same counted none other limit = record {
   fewer = λ more h. omega arith;
 }
 
+-- the first numbers of a store are those of its first circles
+pub first_numbers : (cs more : List Inscribed) (old : List Float) → take (width * length cs) (stored (cs ++ more) old) ≡ all_numbers cs
+unfolding stored
+first_numbers cs more old =
+    rw (numbers-append cs more, append_assoc (all_numbers cs) (all_numbers more) (drop (width * length (cs ++ more)) old))
+    (take_at (all_numbers cs) (all_numbers more ++ drop (width * length (cs ++ more)) old) (width * length cs) (length_all cs))
+
 -- ---- a run
 
 module _ (step : State → Move State End) (measure : State → ℕ) (falls : Falls step measure) (grows : Grows step Part) (ns : List Float) (tol : Float) (old : List Float) (count : ℕ) (start : State)
@@ -105,13 +112,6 @@ module _ (step : State → Move State End) (measure : State → ℕ) (falls : Fa
       ap (λ (x : List Inscribed). drop (count - 1) x) (whole_list full) ∙ drop-append-le (count - 1) (circles_of old count) (drop count (circles_under full)) (omega (arith, length-circles old 0 count)) in
       rw d at s.settled
 
-  -- the first numbers are those of the first circles
-  first_numbers : (cs more : List Inscribed) → take (width * length cs) (stored (cs ++ more) old) ≡ all_numbers cs
-  unfolding stored
-  first_numbers cs more =
-      rw (numbers-append cs more, append_assoc (all_numbers cs) (all_numbers more) (drop (width * length (cs ++ more)) old))
-      (take_at (all_numbers cs) (all_numbers more ++ drop (width * length (cs ++ more)) old) (width * length cs) (length_all cs))
-
   abbrev pub at : ℕ → Called (Unit {0})
   at limit = ran (reported old (whole step measure (under_limit limit) start 0))
 
@@ -134,6 +134,6 @@ module _ (step : State → Move State End) (measure : State → ℕ) (falls : Fa
     first = λ more h.
         let p = part_later step measure start Part grows limit more h in
         let cs = circles_under (under_limit limit) in
-        rw p.1 (first_numbers cs p.0) ∙ sym (ap (λ (x : List Inscribed). take (width * length cs) (stored x old)) (sym (append-nil cs)) ∙ first_numbers cs []);
+        rw p.1 (first_numbers cs p.0 old) ∙ sym (ap (λ (x : List Inscribed). take (width * length cs) (stored x old)) (sym (append-nil cs)) ∙ first_numbers cs [] old);
     fewer = λ more h. let p = part_later step measure start Part grows limit more h in omega (arith, ap length p.1, length-append (circles_under (under_limit limit)) p.0);
   }

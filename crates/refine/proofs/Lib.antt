@@ -6,3 +6,5 @@ pub mod LawOfRuns
 pub mod RefinementLaw
 pub mod EmptyLaws
 pub mod RefinedLaws
+pub mod SlotLaws
+pub mod SlotEntries

@@ -25,10 +25,10 @@ no_goes p = let z : ◌≡◌ {A = ℕ} 0 1 = cc in absurd (omega arith)
 pub no_pays : {A : Type 0} {e : End} {t : State} → ◌≡◌ {A = Move State End} (ends e) (pays t) → A
 no_pays p = let z : ◌≡◌ {A = ℕ} 0 1 = cc in absurd (omega arith)
 
-pays_no_goes : {A : Type 0} {s t : State} → ◌≡◌ {A = Move State End} (pays s) (goes t) → A
+pub pays_no_goes : {A : Type 0} {s t : State} → ◌≡◌ {A = Move State End} (pays s) (goes t) → A
 pays_no_goes p = let z : ◌≡◌ {A = ℕ} 0 1 = cc in absurd (omega arith)
 
-goes_no_pays : {A : Type 0} {s t : State} → ◌≡◌ {A = Move State End} (goes s) (pays t) → A
+pub goes_no_pays : {A : Type 0} {s t : State} → ◌≡◌ {A = Move State End} (goes s) (pays t) → A
 goes_no_pays p = let z : ◌≡◌ {A = ℕ} 0 1 = cc in absurd (omega arith)
 
 -- ---- what a move while circles wait leads to

@@ -17,7 +17,7 @@ use Rattle.curve2.specs.Entry.{HasPoints}
 use Rattle.curve2.proofs.Laws.{entry_passed, entry_room}
 use Rattle.runs.specs.Run.{Move, ends, goes, under_limit, never, whole}
 use Rattle.runs.proofs.LimitLaws.{run_holds, ended_step}
-use Rattle.inscribed.specs.Store.{width, slots, circles_of}
+use Rattle.inscribed.specs.Store.{width, slots_within, circles_of}
 use Rattle.inscribed.specs.declared.Inscribed.{Inscribed}
 use Rattle.inscribed.proofs.StoreLaws.{length-circles}
 use Rattle.refine.specs.Machine.{State, refining, advancing, stopped, circles_in, End, finished, refine_move, measure, refine_step}
@@ -29,22 +29,22 @@ use Rattle.refine.proofs.LawOfRuns.{result-number, still_law, run_law, short-set
 use Rattle.refine.proofs.MoveLaws.{refine_falls}
 use Rattle.errors.specs.declared.Refusal.TheVariants.{StoreFull}
 
-pub within_slots : (ns : List Float) (count : ℕ) → count ≤ slots ns → width * count ≤ length ns
-within_slots ns count h = omega arith
+pub within_slots : (slot_limit : ℕ) (ns : List Float) (count : ℕ) → count ≤ slots_within slot_limit ns → width * count ≤ length ns
+within_slots slot_limit ns count h = omega arith
 
 module _ (o : Offer) where
   abbrev olds : List Inscribed
   olds = circles_of o.store o.count
 
   abbrev step : State → Move State End
-  step = refine_step o.section o.tol (slots o.store)
+  step = refine_step o.section o.tol (slots_within o.slot_limit o.store)
 
   abbrev start : State
   start = refining olds (o.circle ∷ [])
 
-  pub entry_count : refine_entry o ≡ Ok tt → o.count ≤ slots o.store
+  pub entry_count : refine_entry o ≡ Ok tt → o.count ≤ slots_within o.slot_limit o.store
   unfolding refine_entry
-  entry_count e = ltb-false (slots o.store) o.count (entry_room _ _ _ e)
+  entry_count e = ltb-false (slots_within o.slot_limit o.store) o.count (entry_room _ _ _ e)
 
   pub entry_points : refine_entry o ≡ Ok tt → HasPoints o.section
   unfolding refine_entry
@@ -61,16 +61,16 @@ module _ (o : Offer) where
           → LimitLaw o.section o.tol o.store o.count (λ l. after_entry o (under_limit l) a) (after_entry o never a) (λ l. accepted_after o (under_limit l) a) limit
       go (Err r) e = still_law o.section o.tol o.store o.count (refused_on_entry r o.store) tt refl refl refl (not_14 r) limit
       go (Ok passed) e =
-          run_law step (measure (slots o.store)) (refine_falls o.section o.tol (slots o.store)) (refine_grows o.section o.tol (slots o.store)) o.section o.tol o.store o.count start
-          refl (within_slots o.store o.count (entry_count e)) start_sound
-          (refine_sound_goes o.section o.tol o.count (slots o.store)) (refine_sound_pays o.section o.tol o.count (slots o.store)) limit
+          run_law step (measure (slots_within o.slot_limit o.store)) (refine_falls o.section o.tol (slots_within o.slot_limit o.store)) (refine_grows o.section o.tol (slots_within o.slot_limit o.store)) o.section o.tol o.store o.count start
+          refl (within_slots o.slot_limit o.store o.count (entry_count e)) start_sound
+          (refine_sound_goes o.section o.tol o.count (slots_within o.slot_limit o.store)) (refine_sound_pays o.section o.tol o.count (slots_within o.slot_limit o.store)) limit
 
   -- ---- the offered circle
 
-  start_kept : Kept o.section o.tol o.count (slots o.store) o.circle start
+  start_kept : Kept o.section o.tol o.count (slots_within o.slot_limit o.store) o.circle start
   start_kept = (omega (arith, length-circles o.store 0 o.count), inl ([], refl))
 
-  finished_offered : (s : State) → Kept o.section o.tol o.count (slots o.store) o.circle s → step s ≡ ends finished → (before : List Inscribed) × (drop o.count (circles_in s) ≡ before ++ (o.circle ∷ []))
+  finished_offered : (s : State) → Kept o.section o.tol o.count (slots_within o.slot_limit o.store) o.circle s → step s ≡ ends finished → (before : List Inscribed) × (drop o.count (circles_in s) ≡ before ++ (o.circle ∷ []))
   unfolding refine_step refine_move
   finished_offered (refining cs []) h e = ⊎_elim (λ q. none_below q) (λ q. last_one q.1 q.2 q.3) h.1
     where
@@ -79,7 +79,7 @@ module _ (o : Offer) where
 
       last_one : (before : List Inscribed) → cs ≡ before ++ (o.circle ∷ []) → o.count ≤ length before → (after : List Inscribed) × (drop o.count cs ≡ after ++ (o.circle ∷ []))
       last_one before q l = (drop o.count before, rw q (drop-append-le o.count before (o.circle ∷ []) l))
-  finished_offered (refining [] (b ∷ ws)) h e = go (leb (slots o.store) 0) e
+  finished_offered (refining [] (b ∷ ws)) h e = go (leb (slots_within o.slot_limit o.store) 0) e
     where
       go : (x : Bool) → cond {A = Move State End} x (ends (Err StoreFull)) (goes (refining (b ∷ []) ws)) ≡ ends finished → (before : List Inscribed) × (drop o.count [] ≡ before ++ (o.circle ∷ []))
       go true q = let z : ◌≡◌ {A = ℕ} 0 1 = cc in absurd (omega arith)
@@ -97,10 +97,10 @@ module _ (o : Offer) where
       go (Ok passed) =
           λ e.
           finished_offered (offered_run o (under_limit limit)).state
-          (run_holds step (under_limit limit) (Kept o.section o.tol o.count (slots o.store) o.circle)
-          (refine_offered_goes o.section o.tol o.count (slots o.store) o.circle) (refine_offered_pays o.section o.tol o.count (slots o.store) o.circle)
-          (suc (measure (slots o.store) start)) start 0 start_kept)
-          (ended_step step (under_limit limit) (suc (measure (slots o.store) start)) start 0 finished (result-number _ e).1)
+          (run_holds step (under_limit limit) (Kept o.section o.tol o.count (slots_within o.slot_limit o.store) o.circle)
+          (refine_offered_goes o.section o.tol o.count (slots_within o.slot_limit o.store) o.circle) (refine_offered_pays o.section o.tol o.count (slots_within o.slot_limit o.store) o.circle)
+          (suc (measure (slots_within o.slot_limit o.store) start)) start 0 start_kept)
+          (ended_step step (under_limit limit) (suc (measure (slots_within o.slot_limit o.store) start)) start 0 finished (result-number _ e).1)
 
 -- what a call tells of the store that its run leaves, which has two names
 pub ran_in : {A : Type 0} (told : List Float → Report A) (store again : List Float) (o : Report A) → store ≡ again → told again ≡ o → ran (told store) ≡ ran o

@@ -3,28 +3,29 @@ use Rattle.std.specs.Prelude.{Bool, ◌||◌, List, [], ◌∷◌, ℕ, drop, Fl
 use Rattle.errors.specs.Answer.{Answer}
 use Rattle.curve2.specs.Entry.{bad_general, finer_general, section_entry}
 use Rattle.runs.specs.Run.{Final, under_limit, never}
-use Rattle.inscribed.specs.Store.{slots, circles_of, bad_circle, bad_store, bad_store_count}
+use Rattle.inscribed.specs.Store.{slots_within, circles_of, bad_circle, bad_store_within, bad_count_within}
 use Rattle.inscribed.specs.declared.Inscribed.{Inscribed}
 use Rattle.refine.specs.Machine.{State, circles_in, End, refine_run}
 use Rattle.refine.specs.Report.{Called, refused_on_entry, ran, reported}
 
--- what is handed in: a section with its tolerance, a general tolerance, a store with its stated count, and the offered circle
+-- what is handed in: a section with its tolerance, a general tolerance, a store with its stated count and the slot limit that the entry has, and the offered circle
 pub record Offer : Type 0 where
   pub section : List Float
   pub section_tol : Float
   pub tol : Float
   pub store : List Float
   pub count : ℕ
+  pub slot_limit : ℕ
   pub circle : Inscribed
 
 unfoldable pub refine_entry : Offer → Answer (Unit {0})
 refine_entry o =
     section_entry o.section o.section_tol
-    (record { number = bad_store o.store o.count || bad_circle o.circle; tolerance = bad_general o.tol; finer = finer_general o.section_tol o.tol; room = bad_store_count o.store o.count })
+    (record { number = bad_store_within o.slot_limit o.store o.count || bad_circle o.circle; tolerance = bad_general o.tol; finer = finer_general o.section_tol o.tol; room = bad_count_within o.slot_limit o.store o.count })
 
 -- "The offered circle waits alone."
 abbrev pub offered_run : Offer → (ℕ → Bool) → Final State End
-offered_run o full = refine_run o.section o.tol (slots o.store) full (circles_of o.store o.count) (o.circle ∷ []) 0
+offered_run o full = refine_run o.section o.tol (slots_within o.slot_limit o.store) full (circles_of o.store o.count) (o.circle ∷ []) 0
 
 -- "it makes the entry tests first, and a refusal there ends it with none accepted and 0 units"
 unfoldable pub after_entry : Offer → (ℕ → Bool) → Answer (Unit {0}) → Called (Unit {0})

@@ -2,13 +2,14 @@
 #![tactic(auto)]
 
 pub mod checked;
+pub mod laws;
 mod moves;
 mod waiting;
 
 ghost use Rattle.curve2.specs.Lent.{IsLent};
 ghost use Rattle.errors.specs.Answer.{passed};
-ghost use Rattle.std.specs.Prelude.{◌≡◌, ◌||◌, List, Float};
-ghost use Rattle.inscribed.specs.Store.{bad_circle, bad_store};
+ghost use Rattle.std.specs.Prelude.{◌≡◌, ◌≤◌, ◌||◌, List, Float};
+ghost use Rattle.inscribed.specs.Store.{bad_circle, bad_store_within, most_slots, cell_slots};
 ghost use Rattle.refine.specs.Report.{ending_number, called_number, listed_end, listed_called};
 ghost use Rattle.refine.specs.Refinement.{refine_entry, refine_of};
 
@@ -17,6 +18,7 @@ use curve2::{AlsoBad, entering};
 use errors::Refusal;
 use inscribed::Inscribed;
 use inscribed::checked::CirclesStore;
+use inscribed::store::{CELL_SLOTS, MOST_SLOTS};
 use runs::Units;
 
 // How many circles may wait in a refinement.
@@ -97,11 +99,12 @@ pub fn number<T: Copy>(answer: Result<Run<T>, Refusal>) -> u32
     }
 }
 
-// Test 2 of the circles handed in: those in use, and the one offered.
-fn has_bad_number(store: &[f64], count: usize, circle: Inscribed) -> bool
-    ensures { result ≡ (bad_store store.now count || bad_circle circle) }
+// Test 2 of the circles handed in: those in use of a store that has no more slots than `slot_limit`, and the one offered.
+fn has_bad_number(store: &[f64], slot_limit: usize, count: usize, circle: Inscribed) -> bool
+    ensures { result ≡ (bad_store_within slot_limit store.now count || bad_circle circle) }
 {
-    inscribed::store::has_bad_circle(store, count) || inscribed::store::is_bad_circle(circle)
+    inscribed::store::has_bad_within(store, slot_limit, count)
+        || inscribed::store::is_bad_circle(circle)
 }
 
 // The entry tests of a refinement.
@@ -111,23 +114,45 @@ fn entered<'a>(
     section_tol: f64,
     tol: f64,
     store: &[f64],
+    slot_limit: usize,
     count: usize,
     circle: Inscribed,
 ) -> Result<Curve2<'a>, Refusal>
-    ensures entry { passed result ≡ refine_entry (record { section = section.now; section_tol = section_tol; tol = tol; store = store.now; count = count; circle = circle }) }
+    ensures entry { passed result ≡ refine_entry (record { section = section.now; section_tol = section_tol; tol = tol; store = store.now; count = count; slot_limit = slot_limit; circle = circle }) }
     ensures lent { IsLent section.now section_tol result }
 {
     let also = AlsoBad {
-        number: has_bad_number(store, count, circle),
+        number: has_bad_number(store, slot_limit, count, circle),
         tolerance: entering::is_bad_general(tol),
         finer: entering::is_finer_general(section_tol, tol),
-        room: inscribed::store::is_bad_store_count(store, count),
+        room: inscribed::store::is_bad_count_within(store, slot_limit, count),
     };
     entering::section_entry(section, section_tol, also)
 }
 
-// Offers a circle to a store that holds `count`, and refines until none waits, within a limit of units.
+// A refinement into a store that has no more slots than `slot_limit`: what both entries call.
 #[tactic(auto, unfolding(crate::specs::Refinement::refinement))]
+fn refine_with_slots(
+    section: &[f64],
+    section_tol: f64,
+    tol: f64,
+    store: &mut [f64],
+    slot_limit: usize,
+    count: usize,
+    circle: Inscribed,
+    limit: u32,
+) -> Result<Run<()>, Refusal>
+    requires { slot_limit ≤ most_slots }
+    ensures { listed_called result store.new ≡ refine_of (record { section = section.now; section_tol = section_tol; tol = tol; store = store.old; count = count; slot_limit = slot_limit; circle = circle }) limit }
+{
+    let curve = entered(section, section_tol, tol, store, slot_limit, count, circle)?;
+    let mut circles = CirclesStore::with_slot_limit(store, slot_limit, count);
+    Ok(checked::refine(&curve, tol, &mut circles, circle, Units::none_taken(limit)))
+}
+
+/// Offers a circle to a store that holds `count`, and refines until none waits, within a limit of units. The store holds 1,024 circles at most.
+///
+/// Refused on entry, with the store untouched: 1, 2, 3, 23, 4, 6. Refused later, or spent (14): the store keeps the circles that it accepted.
 pub fn refine_and_push(
     section: &[f64],
     section_tol: f64,
@@ -137,9 +162,40 @@ pub fn refine_and_push(
     circle: Inscribed,
     limit: u32,
 ) -> Result<Run<()>, Refusal>
-    ensures { listed_called result store.new ≡ refine_of (record { section = section.now; section_tol = section_tol; tol = tol; store = store.old; count = count; circle = circle }) limit }
+    ensures { listed_called result store.new ≡ refine_of (record { section = section.now; section_tol = section_tol; tol = tol; store = store.old; count = count; slot_limit = most_slots; circle = circle }) limit }
 {
-    let curve = entered(section, section_tol, tol, store, count, circle)?;
-    let mut circles = CirclesStore::new(store, count);
-    Ok(checked::refine(&curve, tol, &mut circles, circle, Units::none_taken(limit)))
+    refine_with_slots(
+        section,
+        section_tol,
+        tol,
+        store,
+        MOST_SLOTS,
+        count,
+        circle,
+        limit,
+    )
+}
+
+/// `refine_and_push` for the cell, whose program has slots for 256: the store holds 256 circles at most, however long it is, in the tests of 2 and 4 too.
+pub fn refine_and_push_cell(
+    section: &[f64],
+    section_tol: f64,
+    tol: f64,
+    store: &mut [f64],
+    count: usize,
+    circle: Inscribed,
+    limit: u32,
+) -> Result<Run<()>, Refusal>
+    ensures { listed_called result store.new ≡ refine_of (record { section = section.now; section_tol = section_tol; tol = tol; store = store.old; count = count; slot_limit = cell_slots; circle = circle }) limit }
+{
+    refine_with_slots(
+        section,
+        section_tol,
+        tol,
+        store,
+        CELL_SLOTS,
+        count,
+        circle,
+        limit,
+    )
 }

@@ -1,6 +1,6 @@
 // Runs within a limit of units.
 ghost use Rattle.std.specs.Prelude.{◌≡◌};
-ghost use Rattle.inscribed.specs.Store.{circle_at};
+ghost use Rattle.inscribed.specs.Store.{circle_at, most_slots, cell_slots};
 ghost use Rattle.refine.specs.Refinement.{refine_of};
 ghost use Rattle.camber.specs.March.{march_of, march_told};
 ghost use Rattle.camber.specs.Extraction.{extraction_of};
@@ -21,9 +21,37 @@ pub extern "C" fn rummyteak_refine_and_push(
     count: &mut usize,
     units: &mut u32,
 ) -> u32
-    ensures { (record { number = result; count = count.new; units = units.new; store = store.new }) ≡ told_run count.old units.old (refine_of (record { section = section.now; section_tol = section_tol; tol = tol; store = store.old; count = stated; circle = circle_at circle.now 0 }) limit) }
+    ensures { (record { number = result; count = count.new; units = units.new; store = store.new }) ≡ told_run count.old units.old (refine_of (record { section = section.now; section_tol = section_tol; tol = tol; store = store.old; count = stated; slot_limit = most_slots; circle = circle_at circle.now 0 }) limit) }
 {
     rummyteak::run::rummyteak_refine_and_push(
+        section,
+        section_tol,
+        tol,
+        store,
+        stated,
+        circle,
+        limit,
+        count,
+        units,
+    )
+}
+
+/// `rummyteak_refine_and_push` for the cell: the store holds 256 circles at most.
+#[unsafe(no_mangle)]
+pub extern "C" fn rummyteak_refine_and_push_cell(
+    section: &[f64],
+    section_tol: f64,
+    tol: f64,
+    store: &mut [f64],
+    stated: usize,
+    circle: &[f64; WIDTH],
+    limit: u32,
+    count: &mut usize,
+    units: &mut u32,
+) -> u32
+    ensures { (record { number = result; count = count.new; units = units.new; store = store.new }) ≡ told_run count.old units.old (refine_of (record { section = section.now; section_tol = section_tol; tol = tol; store = store.old; count = stated; slot_limit = cell_slots; circle = circle_at circle.now 0 }) limit) }
+{
+    rummyteak::run::rummyteak_refine_and_push_cell(
         section,
         section_tol,
         tol,
@@ -53,10 +81,47 @@ pub extern "C" fn rummyteak_march(
     edges: &mut [usize; 2],
     found: &mut bool,
 ) -> u32
-    ensures store_after { (record { number = result; count = count.new; units = units.new; store = store.new }) ≡ told_run count.old units.old (march_of (record { section = section.now; section_tol = section_tol; tol = tol; line = given_line ox oy dx dy; store = store.old }) limit) }
-    ensures found_after { start_cells edges.new found.new ≡ start_left (start_cells edges.old found.old) (march_told (record { section = section.now; section_tol = section_tol; tol = tol; line = given_line ox oy dx dy; store = store.old }) limit) }
+    ensures store_after { (record { number = result; count = count.new; units = units.new; store = store.new }) ≡ told_run count.old units.old (march_of (record { section = section.now; section_tol = section_tol; tol = tol; line = given_line ox oy dx dy; store = store.old; slot_limit = most_slots }) limit) }
+    ensures found_after { start_cells edges.new found.new ≡ start_left (start_cells edges.old found.old) (march_told (record { section = section.now; section_tol = section_tol; tol = tol; line = given_line ox oy dx dy; store = store.old; slot_limit = most_slots }) limit) }
 {
     rummyteak::run::rummyteak_march(
+        section,
+        section_tol,
+        tol,
+        ox,
+        oy,
+        dx,
+        dy,
+        store,
+        limit,
+        count,
+        units,
+        edges,
+        found,
+    )
+}
+
+/// `rummyteak_march` for the cell: the store holds 256 circles at most.
+#[unsafe(no_mangle)]
+pub extern "C" fn rummyteak_march_cell(
+    section: &[f64],
+    section_tol: f64,
+    tol: f64,
+    ox: f64,
+    oy: f64,
+    dx: f64,
+    dy: f64,
+    store: &mut [f64],
+    limit: u32,
+    count: &mut usize,
+    units: &mut u32,
+    edges: &mut [usize; 2],
+    found: &mut bool,
+) -> u32
+    ensures store_after { (record { number = result; count = count.new; units = units.new; store = store.new }) ≡ told_run count.old units.old (march_of (record { section = section.now; section_tol = section_tol; tol = tol; line = given_line ox oy dx dy; store = store.old; slot_limit = cell_slots }) limit) }
+    ensures found_after { start_cells edges.new found.new ≡ start_left (start_cells edges.old found.old) (march_told (record { section = section.now; section_tol = section_tol; tol = tol; line = given_line ox oy dx dy; store = store.old; slot_limit = cell_slots }) limit) }
+{
+    rummyteak::run::rummyteak_march_cell(
         section,
         section_tol,
         tol,
@@ -88,7 +153,7 @@ pub extern "C" fn rummyteak_extract_circles(
     count: &mut usize,
     units: &mut u32,
 ) -> u32
-    ensures { (record { number = result; count = count.new; units = units.new; store = store.new }) ≡ told_run count.old units.old (extraction_of (record { section = section.now; section_tol = section_tol; tol = tol; line = given_line ox oy dx dy; store = store.old }) limit) }
+    ensures { (record { number = result; count = count.new; units = units.new; store = store.new }) ≡ told_run count.old units.old (extraction_of (record { section = section.now; section_tol = section_tol; tol = tol; line = given_line ox oy dx dy; store = store.old; slot_limit = most_slots }) limit) }
 {
     rummyteak::run::rummyteak_extract_circles(
         section,

@@ -2,3 +2,4 @@
 pub mod RunLaws
 pub mod LimitLaws
 pub mod SequelLaws
+pub mod RoomLaws

@@ -8,7 +8,7 @@ use lib.Ieee.{Float}
 use Rattle.std.specs.Prelude.{Ok, Err}
 use Rattle.runs.specs.Run.{Ending, ended, spent, unfinished, Final, under_limit}
 use Rattle.inscribed.specs.Circles.{reversed_points}
-use Rattle.inscribed.specs.Store.{circles_of, stored, slots}
+use Rattle.inscribed.specs.Store.{circles_of, stored, slots_within}
 use Rattle.inscribed.specs.declared.Inscribed.{Inscribed}
 use Rattle.inscribed.specs.Lists.{turned}
 use Rattle.refine.specs.Machine.{State, circles_in, End, finished}
@@ -62,6 +62,6 @@ module _ (m : Marched) (limit : ℕ) (c : Inscribed) (r : Run (Unit {0})) (after
     turned-over : stored (turned cs) after ≡ stored (turned cs) m.store
     turned-over = rw store_is (stored_longer (turned cs) cs m.store (omega (arith, length-turned cs)))
 
-    pub first_done : second_half m.section m.tol m.line (slots m.store) (under_limit limit) after (circles_of after r.count) r.units ≡ first_half m (under_limit limit) c
+    pub first_done : second_half m.section m.tol m.line (slots_within m.slot_limit m.store) (under_limit limit) after (circles_of after r.count) r.units ≡ first_half m (under_limit limit) c
     unfolding after_first second_half
     first_done = rw (sym ending_is ∙ e, held, units_is, turned-over)

@@ -13,7 +13,7 @@ use Rattle.errors.specs.Answer.{Answer}
 use Rattle.line2.specs.Lines.{reversed_line}
 use Rattle.runs.specs.Run.{Ending, ended, spent, unfinished, Final, under_limit, whole}
 use Rattle.runs.proofs.LimitLaws.{compared, finishes}
-use Rattle.inscribed.specs.Store.{width, slots, stored}
+use Rattle.inscribed.specs.Store.{width, slots_within, stored}
 use Rattle.inscribed.specs.declared.Inscribed.{Inscribed}
 use Rattle.inscribed.specs.Lists.{turned}
 use Rattle.refine.specs.Machine.{State, refining, circles_in, End, measure}
@@ -46,7 +46,7 @@ module _ (limit more : ℕ) (h : limit ≤ more) where
     after_larger : (o : Final State End) (e : Ending End) → ((after_first m (under_limit limit) o e).ending ≡ spent → ⊥) → after_first m (under_limit more) o e ≡ after_first m (under_limit limit) o e
     unfolding after_first second_half
     after_larger o (ended (Ok done)) f =
-        second_larger m.section m.tol (slots m.store) (stored (turned (circles_in o.state)) m.store) (length (circles_in o.state) - 1) o.units (inscribed_on m.section m.tol (reversed_line m.line)) f
+        second_larger m.section m.tol (slots_within m.slot_limit m.store) (stored (turned (circles_in o.state)) m.store) (length (circles_in o.state) - 1) o.units (inscribed_on m.section m.tol (reversed_line m.line)) f
     after_larger o (ended (Err n)) f = refl
     after_larger o spent f = refl
     after_larger o unfinished f = refl
@@ -57,7 +57,7 @@ module _ (limit more : ℕ) (h : limit ≤ more) where
 
     half_larger : (c : Inscribed) → ((first_half m (under_limit limit) c).ending ≡ spent → ⊥) → first_half m (under_limit more) c ≡ first_half m (under_limit limit) c
     half_larger c f =
-        ap (λ (o : Final State End). after_first m (under_limit more) o o.ending) (march-larger m.section m.tol (slots m.store) (refining [] (c ∷ [])) 0 (λ e. f (first_spent c e)))
+        ap (λ (o : Final State End). after_first m (under_limit more) o o.ending) (march-larger m.section m.tol (slots_within m.slot_limit m.store) (refining [] (c ∷ [])) 0 (λ e. f (first_spent c e)))
         ∙ after_larger (started_run m (under_limit limit) c) (started_run m (under_limit limit) c).ending f
 
     from_larger : (a : Answer Inscribed) → ((extraction_from m (under_limit limit) a).ending ≡ spent → ⊥) → extraction_from m (under_limit more) a ≡ extraction_from m (under_limit limit) a
@@ -76,10 +76,10 @@ march-ends : (ns : List Float) (tol : Float) (slots : ℕ) (full : ℕ → Bool)
 march-ends ns tol slots full s u = finishes (march_step ns tol slots) (measure slots) (march_falls ns tol slots) full s u
 
 module _ (m : Marched) (full : ℕ → Bool) where
-  second_ends : (store : List Float) (k u : ℕ) (a : Answer Inscribed) → (second_march m.section m.tol (slots m.store) full store k u a).ending ≡ unfinished → ⊥
+  second_ends : (store : List Float) (k u : ℕ) (a : Answer Inscribed) → (second_march m.section m.tol (slots_within m.slot_limit m.store) full store k u a).ending ≡ unfinished → ⊥
   unfolding second_march part_report reported
   second_ends store k u (Err r) = not-unfinished (Err r)
-  second_ends store k u (Ok c) = march-ends m.section m.tol (slots m.store - k) full (refining [] (c ∷ [])) u
+  second_ends store k u (Ok c) = march-ends m.section m.tol (slots_within m.slot_limit m.store - k) full (refining [] (c ∷ [])) u
 
   first_ends : (o : Final State End) (e : Ending End) → o.ending ≡ e → (e ≡ unfinished → ⊥) → (after_first m full o e).ending ≡ unfinished → ⊥
   unfolding after_first second_half reported
@@ -91,7 +91,7 @@ module _ (m : Marched) (full : ℕ → Bool) where
   from_ends : (a : Answer Inscribed) → (extraction_from m full a).ending ≡ unfinished → ⊥
   unfolding extraction_from
   from_ends (Err r) = not-unfinished (Err r)
-  from_ends (Ok c) = first_ends (started_run m full c) (started_run m full c).ending refl (march-ends m.section m.tol (slots m.store) full (refining [] (c ∷ [])) 0)
+  from_ends (Ok c) = first_ends (started_run m full c) (started_run m full c).ending refl (march-ends m.section m.tol (slots_within m.slot_limit m.store) full (refining [] (c ∷ [])) 0)
 
   extraction_ends : (e : Answer (Unit {0})) → Ends (extraction_after m full e)
   unfolding extraction_after
