@@ -20,6 +20,7 @@ use std::time::Instant;
 const T: f64 = 0.000001;
 const G: f64 = 0.01;
 const SLOTS: usize = 1024;
+const CELL_SLOTS: usize = 256;
 // How many numbers a circle has.
 const WIDTH: usize = 9;
 // Stands for a number that the published functions don't have: the lengths along.
@@ -298,8 +299,26 @@ fn plain_circle(n: &[f64]) -> Circle {
     Circle { x: n[0], y: n[1], r: n[2], p0: (n[3], n[4]), p1: (n[5], n[6]), along: (n[7], n[8]) }
 }
 
-// A march, or an extraction where it is whole.
-fn run(edges: usize, open: bool, whole: bool, once: bool) -> Left {
+// Which run: a march, one by the entry for the cell, or an extraction.
+#[derive(Clone, Copy, PartialEq)]
+enum Which {
+    March,
+    Cell,
+    Extraction,
+}
+
+impl Which {
+    fn name(self) -> &'static str {
+        match self {
+            Which::March => "march",
+            Which::Cell => "march-cell",
+            Which::Extraction => "extraction",
+        }
+    }
+}
+
+// A march, by either entry, or an extraction.
+fn run(edges: usize, open: bool, which: Which, once: bool) -> Left {
     let section = &blade(edges, open)[..];
     let line = [1.0, 8.0, 0.03, 1.0];
     #[cfg(published)]
@@ -312,9 +331,10 @@ fn run(edges: usize, open: bool, whole: bool, once: bool) -> Left {
             let (p, n, s, l) = (section.as_ptr(), section.len(), store.as_mut_ptr(), store.len());
             let (mut edges, mut found) = ([0; 2], false);
             let (time, number) = timed(|| unsafe {
-                match whole {
-                    true => rummyteak_extract_circles(p, n, T, G, ox, oy, dx, dy, s, l, u32::MAX, &mut count, &mut units),
-                    false => rummyteak_march(p, n, T, G, ox, oy, dx, dy, s, l, u32::MAX, &mut count, &mut units, &mut edges, &mut found),
+                match which {
+                    Which::Extraction => rummyteak_extract_circles(p, n, T, G, ox, oy, dx, dy, s, l, u32::MAX, &mut count, &mut units),
+                    Which::March => rummyteak_march(p, n, T, G, ox, oy, dx, dy, s, l, u32::MAX, &mut count, &mut units, &mut edges, &mut found),
+                    Which::Cell => rummyteak_march_cell(p, n, T, G, ox, oy, dx, dy, s, l, u32::MAX, &mut count, &mut units, &mut edges, &mut found),
                 }
             });
             assert_eq!(number, 0);
@@ -322,22 +342,23 @@ fn run(edges: usize, open: bool, whole: bool, once: bool) -> Left {
         }),
         #[cfg(published)]
         Box::new(move || {
-            let (time, (list, units)) = timed(|| if whole { published::extraction(curve, G, &line) } else { published::march(curve, G, &line) });
+            let (time, (list, units)) = timed(|| if which == Which::Extraction { published::extraction(curve, G, &line) } else { published::march(curve, G, &line) });
             (time, Left { numbers: store_of(list.iter().map(published::circle_numbers)), units })
         }),
         Box::new(move || {
             let mut units = 0;
             let (time, list) = timed(|| {
                 assert!(plain::enters_run(section, T, G, &line));
-                match whole {
-                    true => plain::extraction(section, G, line_at(&line), SLOTS, u32::MAX, &mut units),
-                    false => plain::march(section, G, line_at(&line), SLOTS, u32::MAX, &mut units).0,
+                match which {
+                    Which::Extraction => plain::extraction(section, G, line_at(&line), SLOTS, u32::MAX, &mut units),
+                    Which::March => plain::march(section, G, line_at(&line), SLOTS, u32::MAX, &mut units).0,
+                    Which::Cell => plain::march(section, G, line_at(&line), CELL_SLOTS, u32::MAX, &mut units).0,
                 }
             });
             (time, Left { numbers: store_of(list.iter().map(plain_numbers)), units })
         }),
     ];
-    run_row(Row { name: if whole { "extraction" } else { "march" }, shape: shape_of(open), edges, per: Per::Unit }, columns, once)
+    run_row(Row { name: which.name(), shape: shape_of(open), edges, per: Per::Unit }, columns, once)
 }
 
 // The open edge, at the front where the open blade has its gap, from the circles of an extraction. The numbers are those of the store and the point.
@@ -395,10 +416,11 @@ fn main() {
         }
     }
     for edges in [100usize, 1000, 4095] {
-        run(edges, false, false, once);
-        run(edges, true, false, once);
-        run(edges, false, true, once);
-        let extracted = run(edges, true, true, once);
+        run(edges, false, Which::March, once);
+        run(edges, true, Which::March, once);
+        run(edges, false, Which::Cell, once);
+        run(edges, false, Which::Extraction, once);
+        let extracted = run(edges, true, Which::Extraction, once);
         edge(edges, &extracted, once);
     }
 }

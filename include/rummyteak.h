@@ -5,7 +5,8 @@
  *
  * What a call writes. A result writes what the function's comment says. A refusal writes nothing, but for a run
  * (refine_and_push, march, extract_circles, fit_open_edge) that was not refused on entry: it keeps its accepted circles in the
- * store and writes count and units. An output keeps what stands behind the result.
+ * store and writes count and units. The entries for the cell (refine_and_push_cell, march_cell) are such runs. An output
+ * keeps what stands behind the result.
  *
  * What the caller owes. A pointer with a length points to that many numbers (with length 0 it may be null); a pointer
  * without one points to as many as its comment says. What is written overlaps nothing else that is handed in.
@@ -20,7 +21,7 @@
  * Lengths of bytes count bytes.
  * A circle is RUMMYTEAK_WIDTH numbers: centre x, y, radius, contact p0 x, y, contact p1 x, y, and the lengths along of the
  * section's nearest points to p0 and to p1. A store is a slice of circles packed from its start; it holds its length /
- * RUMMYTEAK_WIDTH, and at most RUMMYTEAK_SLOTS.
+ * RUMMYTEAK_WIDTH, and at most RUMMYTEAK_SLOTS, or RUMMYTEAK_CELL_SLOTS by an entry for the cell.
  */
 #ifndef RUMMYTEAK_H
 #define RUMMYTEAK_H
@@ -36,6 +37,8 @@ extern "C" {
 /* Numbers to a circle, and circles that a store holds at most. */
 #define RUMMYTEAK_WIDTH 9
 #define RUMMYTEAK_SLOTS 1024
+/* The same by the entries for the cell, whose program has slots for 256. */
+#define RUMMYTEAK_CELL_SLOTS 256
 /* Points of a section, and of what is cleaned or cut, at most. */
 #define RUMMYTEAK_POINTS 4096
 #define RUMMYTEAK_CLEANED 4095
@@ -195,6 +198,23 @@ uint32_t rummyteak_march(const double *section, size_t section_len, double secti
 uint32_t rummyteak_extract_circles(const double *section, size_t section_len, double section_tol, double tol, double ox,
                                    double oy, double dx, double dy, double *store, size_t store_len, uint32_t limit,
                                    size_t *count, uint32_t *units);
+
+/* The entries for the cell: a store holds at most RUMMYTEAK_CELL_SLOTS circles, however long it is, and all else is as above.
+ * The 257th circle that would be accepted is 15. 2 tests the circles in use, and 4 the stated count, by these slots too: a stated
+ * count of 257 is 4, and the 257th circle is not looked at, so that a bad one is 4 where refine_and_push says 2. What stands in
+ * the store behind slot 256 is neither read nor written.
+ * With a stated count of at most RUMMYTEAK_CELL_SLOTS: where the run above leaves no more circles than that, both are alike in
+ * all: the number, count and units, the edges, and every bit of the store. Else the cell's ends in 15 with RUMMYTEAK_CELL_SLOTS
+ * circles, the first ones of the run above bit for bit, within its units, with the same edges, and the store behind them is as
+ * it was. This holds at every limit, the same for both.
+ * Extraction and the fit of the open edge have no entry for the cell, and what is asked of a list of circles needs none: a store
+ * that was filled here is handed to those functions as it is. They hold up to RUMMYTEAK_SLOTS. */
+uint32_t rummyteak_refine_and_push_cell(const double *section, size_t section_len, double section_tol, double tol,
+                                        double *store, size_t store_len, size_t stated, const double *circle,
+                                        uint32_t limit, size_t *count, uint32_t *units);
+uint32_t rummyteak_march_cell(const double *section, size_t section_len, double section_tol, double tol, double ox,
+                              double oy, double dx, double dy, double *store, size_t store_len, uint32_t limit,
+                              size_t *count, uint32_t *units, size_t *edges, bool *found);
 
 /* ---- a list of circles */
 

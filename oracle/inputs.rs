@@ -438,6 +438,15 @@ fn circles(g: &mut Generator, s: &Shape, tol: f64, section: &[f64], tally: &mut 
         }
         let c = &found[g.below(found.len())];
         tally.compare(Call::RefineAndPush(count), section, &join(t, c), &store);
+        tally.compare(Call::RefineAndPushCell(count), section, &join(t, c), &store);
+        // The same behind copies of the first circle, so that the cell is nearly full before.
+        let before = 250 + 2 * count;
+        store.copy_within(0..WIDTH * count, WIDTH * (before - count));
+        for k in 0..before - count {
+            store[WIDTH * k..][..WIDTH].copy_from_slice(&found[0]);
+        }
+        tally.compare(Call::RefineAndPush(before), section, &join(t, c), &store);
+        tally.compare(Call::RefineAndPushCell(before), section, &join(t, c), &store);
     }
     let mut list = vec![REST; WIDTH * found.len() + 3];
     for (k, c) in found.iter().enumerate() {
@@ -537,6 +546,13 @@ fn runs(g: &mut Generator, s: &Shape, tol: f64, section: &[f64], tally: &mut Tal
         }
         let store = vec![REST; WIDTH * SLOTS + g.below(WIDTH)];
         tally.compare(Call::March, section, &join(t, &l), &store);
+        tally.compare(Call::MarchCell, section, &join(t, &l), &store);
+        // A finer tolerance, by which a march may leave more circles than the cell holds.
+        if k == 0 && section.len() < 80 {
+            let finer = [tol, (t[1] / 64.0).max(tol).max(1e-6)];
+            tally.compare(Call::March, section, &join(finer, &l), &store);
+            tally.compare(Call::MarchCell, section, &join(finer, &l), &store);
+        }
         let whole = tally.compare(Call::Extract, section, &join(t, &l), &store);
         let count = whole.told[1] as usize;
         if whole.told[0] != 0 || count == 0 {

@@ -26,6 +26,13 @@ unsafe extern "C" {
         p: In, n: usize, section_tol: f64, tol: f64, ox: f64, oy: f64, dx: f64, dy: f64, s: Out, l: usize, limit: u32, count: &mut usize,
         units: &mut u32, edges: &mut [usize; 2], found: &mut bool,
     ) -> u32;
+    pub fn rummyteak_refine_and_push_cell(
+        p: In, n: usize, section_tol: f64, tol: f64, s: Out, l: usize, stated: usize, circle: In, limit: u32, count: &mut usize, units: &mut u32,
+    ) -> u32;
+    pub fn rummyteak_march_cell(
+        p: In, n: usize, section_tol: f64, tol: f64, ox: f64, oy: f64, dx: f64, dy: f64, s: Out, l: usize, limit: u32, count: &mut usize,
+        units: &mut u32, edges: &mut [usize; 2], found: &mut bool,
+    ) -> u32;
     pub fn rummyteak_extract_circles(
         p: In, n: usize, section_tol: f64, tol: f64, ox: f64, oy: f64, dx: f64, dy: f64, s: Out, l: usize, limit: u32, count: &mut usize,
         units: &mut u32,

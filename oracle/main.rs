@@ -9,7 +9,7 @@ mod sample;
 
 use AngleDir::Ccw;
 use leaves::*;
-use port::{Call, PUBLISHED, REST, WIDTH};
+use port::{CELL_SLOTS, Call, PUBLISHED, REST, WIDTH};
 use std::collections::BTreeMap;
 use std::error::Error;
 use std::fmt::{Display, Formatter};
@@ -44,6 +44,13 @@ impl Wanted {
 
     fn run(circles: Vec<Inscribed>, units: u64, numbers: Vec<f64>) -> Self {
         Wanted { number: 0, edges: None, words: vec![circles.len() as u64, units], numbers, circles: Some(circles), lengths: vec![] }
+    }
+
+    // Of a list that has no room in the cell: 15 with its first circles, whose count alone is known of the words.
+    fn cut(self) -> Self {
+        let circles = self.circles.map(|list| list[..CELL_SLOTS].to_vec());
+        let lengths = self.lengths.iter().take(CELL_SLOTS).copied().collect();
+        Wanted { number: 15, words: vec![CELL_SLOTS as u64], circles, lengths, ..self }
     }
 
     fn list(circles: Vec<Inscribed>, words: Vec<u64>) -> Self {
@@ -252,12 +259,12 @@ fn wanted(call: Call, section: &[f64], args: &[f64], store: &[f64]) -> Wanted {
         Call::FromCrossing => made_on(&curve, circle_answer(Some(input.inscribed_from_crossing(&line_at(&args[2..]))), 0)),
         Call::TryInscribed => made_on(&curve, crossed(circle_answer(input.try_inscribed(&line_at(&args[2..])), 8))),
         Call::Refined => made_on(&curve, circle_answer(input.inscribed_refined(&circle_at(&args[2..]), &circle_at(&args[2 + WIDTH..])), 99)),
-        Call::RefineAndPush(count) => {
+        Call::RefineAndPush(count) | Call::RefineAndPushCell(count) => {
             let mut list = InscribedVec::new(circles_of(store, count));
             list.refine_and_push(circle_at(&args[2..]), &input);
             Wanted::run(list.take_vec(), units(0), vec![])
         }
-        Call::March => made_on(&curve, crossed(or_number(march(&input, &line_at(&args[2..]))))),
+        Call::March | Call::MarchCell => made_on(&curve, crossed(or_number(march(&input, &line_at(&args[2..]))))),
         Call::Extract => made_on(&curve, or_number(extraction(&input, &line_at(&args[2..])))),
         Call::FitOpenEdge(count, front) => or_number(
             fit_open_edge(&input, circles_of(store, count), front).map(|fit| Wanted::run(fit.circles, units(0), point(fit.edge.point))),
@@ -329,6 +336,7 @@ pub struct Tally {
     told: u64,
     most_rounds: u64,
     most_circles: u64,
+    cut: u64,
 }
 
 // The numbers of 01's "Domain" that are added, and 02 (e)'s 23: no answer of the Rust.
@@ -346,6 +354,18 @@ fn with_lengths(numbers: &[f64], lengths: &[[f64; 2]], got: &[f64]) -> Vec<f64> 
     numbers.chunks_exact(PUBLISHED).enumerate().flat_map(|(i, c)| [c, along(i)].concat()).collect()
 }
 
+// The run by the entry whose store holds more circles, where an entry for the cell ended for want of a slot behind its last one.
+fn larger(call: Call, got: &port::Answer) -> Option<Call> {
+    if got.told[..2] != [15, CELL_SLOTS as u64] {
+        return None;
+    }
+    match call {
+        Call::MarchCell => Some(Call::March),
+        Call::RefineAndPushCell(count) => Some(Call::RefineAndPush(count)),
+        _ => None,
+    }
+}
+
 // Where the port's answer differs from what is wanted.
 fn difference(call: Call, got: &port::Answer, want: &Wanted, store: &[f64]) -> Option<String> {
     if got.told[0] != want.number {
@@ -354,8 +374,11 @@ fn difference(call: Call, got: &port::Answer, want: &Wanted, store: &[f64]) -> O
     if got.edges != want.edges {
         return Some(format!("edges {:?} wanted {:?}", got.edges, want.edges));
     }
-    let is_run = matches!(call, Call::RefineAndPush(_) | Call::March | Call::Extract | Call::FitOpenEdge(..));
-    if want.number != 0 {
+    let is_run = matches!(
+        call,
+        Call::RefineAndPush(_) | Call::RefineAndPushCell(_) | Call::March | Call::MarchCell | Call::Extract | Call::FitOpenEdge(..)
+    );
+    if want.number != 0 && want.circles.is_none() {
         // A refusal after the entry leaves accepted circles behind in a run; the Rust gives none to compare with.
         let clean = same(&got.out, &vec![REST; got.out.len()]) && (is_run || got.told[1..] == [0; port::WORDS - 1] && same(&got.store, store));
         return if clean { None } else { Some("memory changed by a refusal".into()) };
@@ -385,16 +408,23 @@ impl Tally {
         let name = format!("{call:?}").split('(').next().unwrap().to_string();
         let row = self.rows.entry(name).or_default();
         let number = got.told[0];
-        if is_added(number) {
+        // A list that is cut at the cell's slots is compared where the whole one is a result.
+        let whole = larger(call, &got).map(|more| port::call(more, section, args, store)).filter(|more| more.told[0] == 0);
+        if is_added(number) && whole.is_none() {
             row[2] += 1;
             *self.outside.entry(number).or_default() += 1;
             return got;
         }
-        let want = wanted(call, section, args, store);
-        row[if number == 0 { 0 } else { 1 }] += 1;
+        let mut want = wanted(call, section, args, store);
+        if let Some(more) = &whole {
+            assert!(got.told[2] <= more.told[2], "more units into fewer slots");
+            self.cut += 1;
+            want = want.cut();
+        }
+        row[if number == 0 || whole.is_some() { 0 } else { 1 }] += 1;
         self.most_rounds = self.most_rounds.max(SHIFTED.load(Ordering::Relaxed));
         self.most_circles = self.most_circles.max(want.circles.as_ref().map_or(0, |c| c.len() as u64));
-        if number != 0 {
+        if number != 0 && whole.is_none() {
             *self.refused.entry(number).or_default() += 1;
         }
         if let Some(what) = difference(call, &got, &want, store) {
@@ -421,6 +451,7 @@ impl Tally {
         println!("refused in both, by number: {:?}", self.refused);
         println!("not compared, by number: {:?}", self.outside);
         println!("most rounds of an edge fit: {}; most circles of a run: {}", self.most_rounds, self.most_circles);
+        println!("of the values, lists cut at the cell's {CELL_SLOTS} circles: {}", self.cut);
         println!("{} comparisons, {} different", sum[0] + sum[1], sum[3]);
         sum[3] == 0
     }

@@ -1,10 +1,11 @@
 // The proved functions, by the C interface (include/rummyteak.h). Each call gives the words told and the numbers put out.
 use crate::interface::*;
 
-// How many numbers a circle has, how many of them the published functions have (all but the lengths along), and how many circles a store holds.
+// How many numbers a circle has, how many of them the published functions have (all but the lengths along), and how many circles a store holds, and holds by the entries for the cell.
 pub const WIDTH: usize = 9;
 pub const PUBLISHED: usize = WIDTH - 2;
 pub const SLOTS: usize = 1024;
+pub const CELL_SLOTS: usize = 256;
 const NO_LIMIT: u32 = u32::MAX;
 
 // The function asked, with what it takes beside the section and the numbers of `args`.
@@ -28,7 +29,9 @@ pub enum Call {
     TryInscribed,
     Refined,
     RefineAndPush(usize),
+    RefineAndPushCell(usize),
     March,
+    MarchCell,
     Extract,
     FitOpenEdge(usize, bool),
     IsOpenAtEnd(usize, bool),
@@ -100,7 +103,9 @@ pub fn call(call: Call, section: &[f64], args: &[f64], store: &[f64]) -> Answer 
                 number => number,
             },
             Call::RefineAndPush(stated) => rummyteak_refine_and_push(p, n, t, g, s, l, stated, circle(0), NO_LIMIT, &mut count, &mut units),
+            Call::RefineAndPushCell(stated) => rummyteak_refine_and_push_cell(p, n, t, g, s, l, stated, circle(0), NO_LIMIT, &mut count, &mut units),
             Call::March => rummyteak_march(p, n, t, g, x, y, dx, dy, s, l, NO_LIMIT, &mut count, &mut units, &mut edges, &mut yes),
+            Call::MarchCell => rummyteak_march_cell(p, n, t, g, x, y, dx, dy, s, l, NO_LIMIT, &mut count, &mut units, &mut edges, &mut yes),
             Call::Extract => rummyteak_extract_circles(p, n, t, g, x, y, dx, dy, s, l, NO_LIMIT, &mut count, &mut units),
             Call::FitOpenEdge(stated, front) => rummyteak_fit_open_edge(p, n, t, g, s, l, stated, front, NO_LIMIT, o, &mut count, &mut units),
             Call::IsOpenAtEnd(stated, front) => rummyteak_is_open_at_end(p, n, t, g, s, l, stated, front, &mut yes),
@@ -134,7 +139,7 @@ pub fn call(call: Call, section: &[f64], args: &[f64], store: &[f64]) -> Answer 
     told[1..1 + words.len()].copy_from_slice(&words);
     let has_edges = match call {
         Call::CrossingLine | Call::TryInscribed => number == 0,
-        Call::March => yes,
+        Call::March | Call::MarchCell => yes,
         _ => false,
     };
     Answer { told, edges: has_edges.then_some(edges), out, store }

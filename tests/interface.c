@@ -296,6 +296,125 @@ static void runs(void)
     release(r), release(odd), release(full_store), release(circle), release(big), release(small), release(none), release(store);
 }
 
+/* NaNs that differ from each other, quiet and signalling, for what no call may read or write. */
+static uint64_t odd_nan(size_t i)
+{
+    return (i % 2 ? UINT64_C(0x7ff4000000000001) : UINT64_C(0xfff8000000000001)) + 3 * i;
+}
+
+static void fill_with_nans(double *p, size_t from, size_t to)
+{
+    for (size_t i = from; i < to; i++) {
+        uint64_t u = odd_nan(i);
+        memcpy(p + i, &u, sizeof u);
+    }
+}
+
+static bool are_nans(const double *p, size_t from, size_t to)
+{
+    for (size_t i = from; i < to; i++)
+        if (bits(p[i]) != odd_nan(i))
+            return false;
+    return true;
+}
+
+/* The circle that R has on the upright line at x. */
+static void upright(double x, double *circle)
+{
+    const double c[W] = {x, 1.00048828125, 0.99951171875, x, 0, x, 2, x, 18 - x};
+    memcpy(circle, c, sizeof c);
+}
+
+#define CELL RUMMYTEAK_CELL_SLOTS
+
+/* A store of 300 slots that has circles of R in the first ones, each 1/256 to the right of the one before, and NaNs behind. */
+static double *rank_of(size_t circles)
+{
+    double *store = marked(W * 300);
+    fill_with_nans(store, 0, W * 300);
+    for (size_t k = 0; k < circles; k++)
+        upright(1 + (double)k / 256, store + W * k);
+    return store;
+}
+
+/* The refinement for the cell: 256 circles fit, the 257th is 15; a stated 257 is 4, where the other entry says 2 or has a result. */
+static void cell_refinements(void)
+{
+    double *r = copy(R, RLEN), *circle = marked(W), *full = rank_of(256), *store = rank_of(255), *more = rank_of(257), *third = rank_of(300);
+    size_t count = 77;
+    uint32_t units = 77;
+    upright(1 + 255.0 / 256, circle);
+    EXPECT(rummyteak_refine_and_push_cell(r, RLEN, T, G, store, W * 300, 255, circle, 9, &count, &units) == 0);
+    EXPECT(count == 256 && units == 1 && same(store, full, W * CELL) && are_nans(store, W * CELL, W * 300));
+    EXPECT(rummyteak_refine_and_push_cell(r, RLEN, T, G, store, W * 300, 256, circle, 0, &count, &units) == 14 && count == 256 && units == 0);
+    EXPECT(rummyteak_refine_and_push_cell(r, RLEN, T, G, store, W * 300, 256, circle, 9, &count, &units) == 15 && count == 256 && units == 1);
+    EXPECT(same(store, full, W * CELL) && are_nans(store, W * CELL, W * 300));
+    count = 77, units = 77;
+    EXPECT(rummyteak_refine_and_push_cell(r, RLEN, T, G, store, W * 300, 257, circle, 9, &count, &units) == 4);
+    EXPECT(rummyteak_refine_and_push(r, RLEN, T, G, store, W * 300, 257, circle, 9, &count, &units) == 2);
+    EXPECT(rummyteak_refine_and_push_cell(r, RLEN, T, G, more, W * 300, 257, circle, 9, &count, &units) == 4);
+    EXPECT(rummyteak_refine_and_push_cell(r, RLEN, T, G, more, W * 300, SIZE_MAX, circle, 9, &count, &units) == 4);
+    EXPECT(rummyteak_refine_and_push_cell(r, RLEN, G, T, more, W * 300, 257, circle, 9, &count, &units) == 23);
+    EXPECT(rummyteak_refine_and_push_cell(r, RLEN, T, NAN, more, W * 300, 257, circle, 9, &count, &units) == 3);
+    EXPECT(rummyteak_refine_and_push_cell(NULL, 0, T, G, NULL, 0, 1, circle, 9, &count, &units) == 1);
+    fill_with_nans(third, W * 255, W * 256);
+    EXPECT(rummyteak_refine_and_push_cell(r, RLEN, T, G, third, W * 300, 257, circle, 9, &count, &units) == 2);
+    EXPECT(count == 77 && units == 77 && same(store, full, W * CELL) && are_nans(more, W * 257, W * 300) && are_nans(third, W * 255, W * 256));
+    EXPECT(rummyteak_refine_and_push(r, RLEN, T, G, full, W * 300, 256, circle, 9, &count, &units) == 0 && count == 257 && units == 1);
+    EXPECT(same(full, store, W * 256) && same(full + W * 256, circle, W) && are_nans(full, W * 257, W * 300));
+    /* a store with fewer slots is full as it is for the other entry */
+    EXPECT(rummyteak_refine_and_push_cell(r, RLEN, T, G, more, W * 256 - 1, 255, circle, 9, &count, &units) == 15 && count == 255 && units == 1);
+    EXPECT(rummyteak_refine_and_push_cell(r, RLEN, T, G, more, W * 256 - 1, 256, circle, 9, &count, &units) == 4);
+    release(r), release(circle), release(full), release(store), release(more), release(third);
+}
+
+/* Both entries on the same input, each into a store of 300 slots: alike, or the one for the cell ends in 15 with the first 256 circles of the other. */
+static void both_marches(const double *section, double tol, double x, double y, uint32_t limit)
+{
+    double *large = rank_of(0), *small = rank_of(0);
+    size_t count[2] = {77, 77}, edges[2][2] = {{77, 77}, {77, 77}};
+    uint32_t units[2] = {77, 77};
+    bool found[2] = {false, false};
+    uint32_t n = rummyteak_march(section, RLEN, T, tol, x, y, 0, 1, large, W * 300, limit, &count[0], &units[0], edges[0], &found[0]);
+    uint32_t m = rummyteak_march_cell(section, RLEN, T, tol, x, y, 0, 1, small, W * 300, limit, &count[1], &units[1], edges[1], &found[1]);
+    EXPECT(found[0] == found[1] && edges[0][0] == edges[1][0] && edges[0][1] == edges[1][1]);
+    if (count[0] <= CELL || n == 3) {
+        EXPECT(n == m && count[0] == count[1] && units[0] == units[1] && same(large, small, W * 300));
+    } else {
+        EXPECT(m == 15 && count[1] == CELL && units[1] <= units[0] && same(large, small, W * CELL));
+    }
+    EXPECT(count[1] > CELL ? count[1] == 77 : are_nans(small, W * count[1], W * 300));
+    release(large), release(small);
+}
+
+static void cell_marches(void)
+{
+    const double strip[] = {0, 0, 8, 0, 8, 0.1, 0, 0.1, 0, 0};
+    double *r = copy(R, RLEN), *s = copy(strip, RLEN), *none = marked(W - 1), *store = rank_of(0);
+    size_t count = 77, edges[2] = {77, 77};
+    uint32_t units = 77;
+    bool found = false;
+    for (uint32_t limit = 0; limit < 105; limit++)
+        both_marches(r, G, 4, 1, limit);
+    for (uint32_t limit = 505; limit < 602; limit++)
+        both_marches(s, T, 5.5, 0.05, limit);
+    both_marches(s, T, 5.5, 0.05, RUMMYTEAK_NO_LIMIT);
+    both_marches(r, G, 20, 1, 9);
+    both_marches(r, NAN, 4, 1, 9);
+    EXPECT(rummyteak_march_cell(s, RLEN, T, T, 6.482, 0.05, 0, 1, store, W * 300, 510, &count, &units, edges, &found) == 0);
+    EXPECT(count == 256 && units == 510 && found && edges[0] == 0 && edges[1] == 2 && are_nans(store, W * CELL, W * 300));
+    EXPECT(rummyteak_march_cell(s, RLEN, T, T, 6.484, 0.05, 0, 1, store, W * 300, 512, &count, &units, edges, &found) == 15);
+    EXPECT(count == 256 && units == 512 && are_nans(store, W * CELL, W * 300));
+    EXPECT(rummyteak_march(s, RLEN, T, T, 6.484, 0.05, 0, 1, store, W * 300, 512, &count, &units, edges, &found) == 0 && count == 257 && units == 512);
+    EXPECT(rummyteak_march_cell(r, RLEN, T, G, 4, 1, 0, 1, none, W - 1, 9, &count, &units, edges, &found) == 15 && count == 0 && units == 0);
+    EXPECT(rummyteak_march_cell(r, RLEN, T, G, 20, 1, 0, 1, none, W - 1, 9, &count, &units, edges, &found) == 8 && !found && count == 0);
+    count = 77, units = 77;
+    EXPECT(rummyteak_march_cell(r, RLEN, G, T, 4, 1, 0, 1, none, W - 1, 9, &count, &units, edges, &found) == 23);
+    EXPECT(rummyteak_march_cell(r, RLEN - 1, T, G, 4, 1, 0, 1, none, W - 1, 9, &count, &units, edges, &found) == 1);
+    EXPECT(count == 77 && units == 77 && untouched(none, 0, W - 1));
+    release(r), release(s), release(none), release(store);
+}
+
 static void lists(void)
 {
     double *store = copy(PAIR, 2 * W), *front = marked(W), *back = marked(W), *line = marked(4), x = MARK;
@@ -667,6 +786,8 @@ int main(void)
     stretches();
     circles();
     runs();
+    cell_refinements();
+    cell_marches();
     lists();
     curves();
     orientation();

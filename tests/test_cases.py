@@ -5,6 +5,7 @@ The table's first lines say how it is read. Passed over are the lines and questi
 from __future__ import annotations
 
 import ctypes
+import re
 import struct
 import sys
 import unittest
@@ -36,6 +37,7 @@ IN_C = {
     "length_along": "S t n x 1", "crossing_line": "S t l 4 E", "joined_crossing": "S t l 4 E",
     "inscribed_from_crossing": "S t g l C", "try_inscribed": "S t g l C E", "inscribed_refined": "S t g a b C B",
     "refine_and_push": "S t g K n a u N U", "march": "S t g l K u N U E F", "extract_circles": "S t g l K u N U",
+    "refine_and_push_cell": "S t g K n a u N U", "march_cell": "S t g l K u N U E F",
     "front_and_back": "K n C C", "index_of_tmax": "K n N", "average_spacing": "K n 1", "end_clip_line": "K n 4",
     "reverse_points": "K n", "reverse_order_only": "K n", "reverse_order": "K n", "circles_from": "K n y N N",
     "camber_curve": "K n t R N B", "make_camber_curve": "l K n t R N B",
@@ -43,7 +45,7 @@ IN_C = {
     "is_open_at_end": "S t g K n y B", "fit_open_edge": "S t g K n y u 2 N U",
 }
 
-# The same in Python: k is the circles, L a line and P a point as one argument, s the slots.
+# The same in Python: k is the circles, L a line and P a point as one argument, s the slots, c yes for the cell.
 IN_PYTHON = {
     "sqrt": "x", "from_points": "S t y", "reversed": "S t", "is_closed": "S t", "length": "S t",
     "at_front": "S t", "at_back": "S t", "at_vertex": "S t n", "at_length": "S t x", "at_closest_to_point": "S t p",
@@ -51,6 +53,7 @@ IN_PYTHON = {
     "length_along": "S t n x", "crossing_line": "S t L", "joined_crossing": "S t L",
     "inscribed_from_crossing": "S t g L", "try_inscribed": "S t g L", "inscribed_refined": "S t g a b",
     "refine_and_push": "S t g k a u s", "march": "S t g L u s", "extract_circles": "S t g L u s",
+    "refine_and_push_cell": "S t g k a u s c", "march_cell": "S t g L u s c",
     "front_and_back": "k", "index_of_tmax": "k", "average_spacing": "k", "end_clip_line": "k",
     "reverse_points": "k", "reverse_order_only": "k", "reverse_order": "k", "circles_from": "k y",
     "camber_curve": "k t", "make_camber_curve": "P k t",
@@ -103,7 +106,7 @@ class Table:
         if sign == "k":
             return [[rt.Inscribed(*self.store[rt.WIDTH * i : rt.WIDTH * (i + 1)]) for i in range(place)]]
         plain = {"t": a[:1], "g": a[1:2], "x": a[2:3], "p": a[2:4], "l": a[2:6], "L": [a[2:6]], "P": [a[2:4], a[4:6]], "n": [place], "y": [yes], "u": [limit]}
-        plain.update({"a": [self.circle(0)], "b": [self.circle(1)], "s": [self.store_len // rt.WIDTH]})
+        plain.update({"a": [self.circle(0)], "b": [self.circle(1)], "s": [self.store_len // rt.WIDTH], "c": [True]})
         return plain[sign]
 
     def ask(self, name: str, place: int, yes: int, limit: int) -> None:
@@ -203,6 +206,10 @@ class Table:
             flat += rt.Inscribed(x, 1.00048828125, 0.99951171875, x, 0.0, x, 2.0, x, 18.0 - x)
         self.store[: len(flat)] = flat
 
+    def do_copies(self, words):
+        flat = whole(words, 1) * self.args[2 : 2 + rt.WIDTH]
+        self.store[: len(flat)] = flat
+
     def do_ask(self, words):
         self.ask(words[1], whole(words, 2), whole(words, 3), whole(words, 4) if len(words) > 4 else rt.NO_LIMIT)
 
@@ -261,6 +268,19 @@ class Table:
     def do_fits(self, words):
         return self.do_limits(words, True)
 
+    def do_slots(self, words):
+        self.do_keep()
+        slots, smaller, larger = whole(words, 1), (words[2], whole(words, 3)), (words[4], whole(words, 5))
+        plain = self.run(*larger, 0, rt.NO_LIMIT)
+        for limit in range(plain[0][2] + 3):
+            more, ran = self.run(*larger, 0, limit), self.run(*smaller, 0, limit)
+            (_, count, units, *edges), out, store = more
+            if count > slots:
+                used = 8 * rt.WIDTH * slots
+                more = [15, slots, min(units, ran[0][2]), *edges], out, store[:used] + self.kept[1][used:]
+            if ran != more:
+                return False
+
     def do_agree(self, words):
         self.do_keep()
 
@@ -274,7 +294,7 @@ class Table:
 def in_python(name: str, handed):
     """What the module's function answers: what is told, the numbers, and the circles where it leaves some."""
     try:
-        answer = getattr(rt, name)(*handed)
+        answer = getattr(rt, re.sub("_cell$", "", name))(*handed)
     except rt.Refused as refused:
         return [refused.number] + [0] * (TOLD - 1), [], None
     if isinstance(answer, rt.Piece):
@@ -329,10 +349,10 @@ class Cases(unittest.TestCase):
             if words[0] == "case":
                 case, passed = text, False
                 continue
-            questions = {"ask": words[1:2], "bad": words[4:5], "limits": words[2:3], "fits": words[2:3], "agree": words[2:4]}.get(words[0], [])
+            questions = {"ask": words[1:2], "bad": words[4:5], "limits": words[2:3], "fits": words[2:3], "agree": words[2:4], "slots": words[2:5:2]}.get(words[0], [])
             if questions or words[0] in LEFT_OUT:
                 passed = bool(LEFT_OUT.intersection([words[0], *questions]))
-            if passed and words[0] not in ("section", "row", "args", "store", "room", "rank"):
+            if passed and words[0] not in ("section", "row", "args", "store", "room", "rank", "copies"):
                 continue
             asked.update(NAMES.get(q, q) for q in questions)
             lines += 1

@@ -32,6 +32,7 @@ sys.path.insert(0, str(ROOT / "python"))
 
 import rummyteak as rt  # noqa: E402
 from rummyteak._library import call  # noqa: E402
+from rummyteak.blade import Options  # noqa: E402
 from rummyteak.files import Reading, Unreadable, read  # noqa: E402
 from rummyteak.outputs import put  # noqa: E402
 from rummyteak.report import ADVICE  # noqa: E402
@@ -284,6 +285,69 @@ class Rows(unittest.TestCase):
             self.assertEqual(run.circles, plain.circles[: len(run.circles)])
         self.assertEqual(rt.refine_and_push(R, T, G, PAIR[:1], PAIR[1]).circles, PAIR)
 
+    @staticmethod
+    def rank(count):
+        """Circles that R has on upright lines, each 1/256 to the right of the one before."""
+        return tuple(rt.Inscribed(x, 1.00048828125, 0.99951171875, x, 0.0, x, 2.0, x, 18.0 - x) for x in (1 + k / 256 for k in range(count)))
+
+    def test_refinements_for_the_cell(self):
+        """256 circles fit, the 257th is 15; a list of 257 is refused with 4, whatever stands in its last circle."""
+        rank = self.rank(258)
+        self.assertEqual(rt.CELL_SLOTS, 256)
+        for slots in (None, 256, 300, 1024, 2000):
+            with self.subTest(slots=slots):
+                run = rt.refine_and_push(R, T, G, rank[:255], rank[255], slots=slots, cell=True)
+                self.assertEqual((run.number, run.circles, run.units), (0, rank[:256], 1))
+                run = rt.refine_and_push(R, T, G, rank[:256], rank[256], slots=slots, cell=True)
+                self.assertEqual((run.number, run.circles, run.units), (15, rank[:256], 1))
+                self.assertEqual(rt.refine_and_push(R, T, G, rank[:256], rank[256], 0, slots=slots, cell=True).number, 14)
+                self.refused(4, lambda: rt.refine_and_push(R, T, G, rank[:257], rank[257], slots=slots, cell=True))
+        bad = rank[:256] + (rank[256]._replace(l1=float("nan")),)
+        self.refused(4, lambda: rt.refine_and_push(R, T, G, bad, rank[257], cell=True))
+        self.refused(2, lambda: rt.refine_and_push(R, T, G, bad, rank[257]))
+        self.assertEqual(rt.refine_and_push(R, T, G, rank[:256], rank[256]).circles, rank[:257])
+        self.assertEqual(rt.refine_and_push(R, T, G, rank[:3], rank[3], slots=3, cell=True).number, 15)
+
+    def test_marches_for_the_cell(self):
+        """Both entries are alike as far as 256 circles; then the one for the cell ends in 15 with the first 256 of the other."""
+        for limit in range(105):
+            self.assertEqual(rt.march(R, T, G, (4, 1, 0, 1), limit, cell=True), rt.march(R, T, G, (4, 1, 0, 1), limit))
+        strip = [0, 0, 8, 0, 8, 0.1, 0, 0.1, 0, 0]
+        for x, full, units in ((6.482, 256, 510), (6.484, 257, 512), (5.5, 413, 824)):
+            large, small = (rt.march(strip, T, T, (x, 0.05, 0, 1), cell=cell) for cell in (False, True))
+            self.assertEqual((large.number, len(large.circles), large.units), (0, full, units))
+            want = large if full == 256 else rt.March(15, large.circles[:256], 512, large.edges)
+            for slots in (None, 256, 300, 2000):
+                self.assertEqual(rt.march(strip, T, T, (x, 0.05, 0, 1), slots=slots, cell=True), want)
+            self.assertEqual(small, want)
+        self.assertEqual(len(rt.march(strip, T, T, (5.5, 0.05, 0, 1), slots=100, cell=True).circles), 100)
+        self.refused(23, lambda: rt.march(R, G, T, (4, 1, 0, 1), cell=True))
+
+    def test_behind_the_slots_of_the_cell(self):
+        """Numbers behind slot 256 are neither read nor written: NaNs keep their bits."""
+        size, width = 300, rt.WIDTH
+        nans = [(0x7FF4000000000001 if i % 2 else 0xFFF8000000000001) + 3 * i for i in range(width * size)]
+        rank = [x for c in self.rank(257) for x in c]
+
+        def store_of(circles):
+            numbers = [struct.pack("<d", x) for x in rank[: width * circles]] + [struct.pack("<Q", n) for n in nans[width * circles :]]
+            return (ctypes.c_double * (width * size)).from_buffer_copy(b"".join(numbers))
+
+        def behind(store):
+            return bytes(store)[8 * width * 256 :]
+
+        strip, section = (ctypes.c_double * 10)(0, 0, 8, 0, 8, 0.1, 0, 0.1, 0, 0), (ctypes.c_double * 10)(*R)
+        circle = (ctypes.c_double * width)(*self.rank(257)[256])
+        for stated, number in ((255, 0), (256, 15), (257, 4)):
+            count, units, store = ctypes.c_size_t(77), ctypes.c_uint32(77), store_of(stated)
+            self.assertEqual(call("refine_and_push_cell", section, 10, T, G, store, len(store), stated, circle, 9, count, units), number)
+            self.assertEqual((count.value, units.value), (77, 77) if number == 4 else (256, 1))
+            self.assertEqual(behind(store), behind(store_of(stated)))
+        count, units, edges, found, store = ctypes.c_size_t(77), ctypes.c_uint32(77), (ctypes.c_size_t * 2)(), ctypes.c_bool(), store_of(0)
+        self.assertEqual(call("march_cell", strip, 10, T, T, 5.5, 0.05, 0, 1, store, len(store), rt.NO_LIMIT, count, units, edges, found), 15)
+        self.assertEqual((count.value, units.value, found.value, list(edges)), (256, 512, True, [0, 2]))
+        self.assertEqual(behind(store), behind(store_of(0)))
+
 
 class Types(unittest.TestCase):
     """What goes in: anything that holds numbers, and a clear word about what doesn't."""
@@ -340,6 +404,8 @@ class Types(unittest.TestCase):
             (ValueError, rt.march, R, T, G, (4, 1, 0, 1), 2**32),
             (TypeError, rt.march, R, T, G, (4, 1, 0, 1), 5.0),
             (ValueError, rt.march, R, T, G, (4, 1, 0, 1), 5, -1),
+            (ValueError, rt.march, R, T, G, (4, 1, 0, 1), 5, -1, True),
+            (TypeError, rt.refine_and_push, R, T, G, PAIR[:1], PAIR[1], 5, 2.0, True),
             (ValueError, rt.index_of_tmax, [(4, 1, 1)]),
             (ValueError, rt.make_camber_curve, (0, 1, 2), (8, 1), PAIR, T),
             (TypeError, rt.shuffle, [0] * 8),
@@ -559,6 +625,8 @@ class Header(unittest.TestCase):
         points = self.constant("MOST_POINTS", "curve2", "src", "lib.rt")
         self.assertEqual((self.defined("RUMMYTEAK_WIDTH"), rt.WIDTH), (width, width))
         self.assertEqual((self.defined("RUMMYTEAK_SLOTS"), rt.SLOTS), (slots, slots))
+        cell = self.constant("CELL_SLOTS", "inscribed", "src", "store.rt")
+        self.assertEqual((self.defined("RUMMYTEAK_CELL_SLOTS"), rt.CELL_SLOTS), (cell, cell))
         self.assertEqual((self.defined("RUMMYTEAK_POINTS"), self.defined("RUMMYTEAK_CLEANED")), (points, points - 1))
         self.assertEqual(self.defined("RUMMYTEAK_RECORD"), 2 + slots * (2 + 8 * width))
         self.assertEqual(self.defined("RUMMYTEAK_BYTES"), self.constant("MOST_BYTES", "shuffle", "src", "lib.rt"))
@@ -576,7 +644,9 @@ class Header(unittest.TestCase):
             exports.update(re.findall(r'extern "C" fn rummyteak_(\w+)', file.read_text(encoding="utf-8")))
         self.assertEqual(set(re.findall(r"uint32_t rummyteak_(\w+)\(", self.header)), exports)
         self.assertEqual(set(rt._library._arguments), exports)
-        self.assertLessEqual(exports, set(rt.__all__))
+        named = {re.sub("_cell$", "", name) for name in exports}
+        self.assertEqual(len(exports - named), 2, "an entry for the cell is the module's function with cell=True")
+        self.assertLessEqual(named, set(rt.__all__))
         called = (ROOT / "tests" / "interface.c").read_text(encoding="utf-8")
         for name in exports:
             endings = set(re.findall(rf"rummyteak_{name}\((?:[^()]|\([^()]*\))*\) == (\d+)", called))
@@ -836,6 +906,10 @@ class Command(unittest.TestCase):
             ("examples/open.dat", "--slots", "1025"), ("examples/open.dat", "--end", "left"), ("examples/open.dat", "--fwd", "1", "0", "--airflow", "1", "0"),
             ("examples/open.dat", "--record", "-"), ("examples/open.dat", "examples/thick.dat", "--record", "a.bin"),
             ("examples/open.dat", "examples/thick.dat", "--csv", "-"), ("examples/open.dat", "--csv", "-", "--json", "-"),
+            ("examples/open.dat", "--cell"), ("examples/open.dat", "examples/thick.dat", "--cell"), ("examples/open.dat", "--march", "--cell", "--slots", "257"),
+            ("examples/open.dat", "--march", "--fwd", "1", "0"), ("examples/open.dat", "--march", "--airflow", "1", "0"), ("examples/open.dat", "--march", "--curvature"),
+            ("examples/open.dat", "--march", "--upper", "0", "1"), ("examples/open.dat", "--march", "--lower", "0", "1"), ("examples/open.dat", "--march", "--end", "back"),
+            ("examples/open.dat", "--march", "--cell", "--end", "front"),
         ):
             with self.subTest(args=args):
                 done = self.run_command(*args)
@@ -879,6 +953,61 @@ class Command(unittest.TestCase):
         piece = rt.between_lengths(plain["points"], T, 10, 80)
         self.assertEqual((cut["points"], cut["stretch"], cut["stretch_given"]), (plain["points"], list(piece.numbers), piece.given))
         self.assertEqual((plain["stretch"], told("--between", "80", "10")["number"]), (None, 21))
+
+    def test_march(self):
+        """One march on one side, by either entry: its circles as they were marched, with no orientation and no open edge."""
+        line = ("--line", "4", "1", "0", "1")
+        run = rt.march(R, T, G, (4, 1, 0, 1))
+        plain = None
+        for cell, slots in ((), 1024), (("--cell",), 256):
+            done = self.run_command("-", *line, "--march", *cell, "--json", "-", given=self.TEXT)
+            told = json.loads(done.stdout)
+            self.assertEqual((done.returncode, done.stderr), (0, "rummyteak: standard input: line 1 passed over: title\n"))
+            self.assertEqual((told["options"]["march"], told["options"]["cell"], told["options"]["slots"]), (True, bool(cell), slots))
+            self.assertEqual([tuple(c) for c in told["circles"]], list(run.circles))
+            self.assertEqual((told["units"], told["edges"], told["turned"], told["swapped"], told["edge"]), (run.units, list(run.edges), None, None, None))
+            self.assertEqual(told["camber"], list(rt.camber_curve(run.circles, T).numbers))
+            plain = plain or told
+            self.assertEqual({k: v for k, v in told.items() if k != "options"}, {k: v for k, v in plain.items() if k != "options"})
+            text = self.run_command("-", *line, "--march", *cell, given=self.TEXT).stdout
+            self.assertIn(f"one march, to the right of the line as it points; {'the entry for the cell, ' if cell else ''}{slots} slots\n", text)
+            self.assertIn(f"circles             {len(run.circles)}, {run.units} units\n", text)
+        self.assertNotIn("one march", self.run_command("-", *line, given=self.TEXT).stdout)
+        other = json.loads(self.run_command("-", "--line", "4", "1", "0", "-1", "--march", "--json", "-", given=self.TEXT).stdout)
+        self.assertLess(other["circles"][-1][0], 4, "a line turned round marches to the other side")
+        opened = json.loads(self.run_command("examples/open.dat", "--march", "--cell", "--end", "none", "--json", "-").stdout)
+        self.assertEqual((opened["closed"], opened["edge"], opened["number"]), (False, None, 0))
+
+    def test_cell(self):
+        """15 says what to do; a spent march keeps its circles, and so does a record of them."""
+        strip = "0 0\n8 0\n8 0.1\n0 0.1\n0 0\n"
+        args = ("-", "--tol", "0.001", "--line", "5.5", "0.05", "0", "1", "--march", "--cell")
+        circles = rt.march([0, 0, 8, 0, 8, 0.1, 0, 0.1, 0, 0], T, T, (5.5, 0.05, 0, 1)).circles
+        for more, number, count, words in (
+            ((), 15, 256, ("larger --tol", "leave out --cell")),
+            (("--slots", "100"), 15, 100, ("more --slots, up to 256",)),
+            (("--slots", "256", "--limit", "511"), 14, 256, ("--limit",)),
+            (("--limit", "0"), 14, 1, ("--limit",)),
+            (("--slots", "0"), 15, 0, ("--slots",)),
+            (("--section-tol", "0.002"), 23, 0, ("--tol",)),
+        ):
+            with self.subTest(more=more), tempfile.TemporaryDirectory() as folder:
+                names = [str(Path(folder) / n) for n in ("a.csv", "a.bin", "a.svg")]
+                done = self.run_command(*args, *more, "--csv", names[0], "--record", names[1], "--svg", names[2], given=strip)
+                self.assertEqual(done.returncode, number)
+                for word in words:
+                    self.assertIn(word, done.stderr)
+                self.assertRegex(done.stdout, rf"(?m)^circles +{count}, ")
+                self.assertEqual([tuple(map(float, row.split(","))) for row in Path(names[0]).read_text().splitlines()[1:]], list(circles[:count]))
+                self.assertEqual(rt.read_record(Path(names[1]).read_bytes()), circles[:count])
+                self.assertIn(f"{number}: ", ElementTree.parse(names[2]).getroot().find("{http://www.w3.org/2000/svg}title").text)
+        self.assertEqual(self.run_command(*args[:-1], given=strip).returncode, 0, "without --cell there are slots for all")
+        with self.assertRaises(ValueError):
+            Options(cell=True)
+        with self.assertRaises(ValueError):
+            Options(march=True, upper=(0, 1))
+        several = self.run_command("examples/thick.dat", "examples/open.dat", "--march", "--cell", "--slots", "9")
+        self.assertEqual((several.returncode, [line.split(", ")[0].split(": ")[1] for line in several.stdout.splitlines()]), (15, ["9 circles", "9 circles"]))
 
     def test_outputs(self):
         with tempfile.TemporaryDirectory() as folder:
@@ -1073,6 +1202,7 @@ class Command(unittest.TestCase):
         for words in ("it stopped here, at circle", "as far as it came", "14: spent"):
             self.assertIn(words, text)
         self.assertIn("stretch, ", drawn("examples/open.dat", "--between", "10", "80")[0])
+        self.assertIn("units, one march, cell<", drawn("examples/open.dat", "--march", "--cell")[0])
         self.assertIn("8: ", drawn("examples/thick.dat", "--line", "90", "0", "0", "1")[0])
         self.assertIn("5: ", drawn("-", "--section-tol", "100", given=self.TEXT)[0])
 

@@ -21,10 +21,10 @@ from array import array
 from dataclasses import dataclass
 from typing import Any, Iterable, List, NamedTuple, Optional, Sequence, Tuple, Union
 
-from ._library import NO_LIMIT, SLOTS, WORDS, call, is_masked, real, whole
+from ._library import CELL_SLOTS, NO_LIMIT, SLOTS, WORDS, call, is_masked, real, whole
 
 __all__ = [
-    "Refused", "Curve2", "Piece", "CurveStation2", "Line2", "Crossing", "Inscribed", "CircleOnLine", "Run", "March", "Fit", "NO_LIMIT", "SLOTS", "WIDTH", "WORDS",
+    "Refused", "Curve2", "Piece", "CurveStation2", "Line2", "Crossing", "Inscribed", "CircleOnLine", "Run", "March", "Fit", "CELL_SLOTS", "NO_LIMIT", "SLOTS", "WIDTH", "WORDS",
     "sqrt", "from_points", "reversed", "is_closed", "length", "at_front", "at_back", "at_vertex", "at_length", "at_closest_to_point",
     "length_along", "between_lengths", "split_open_at_length", "split_closed_at_lengths", "crossing_line", "joined_crossing", "inscribed_from_crossing", "try_inscribed", "inscribed_refined",
     "refine_and_push", "march", "extract_circles", "front_and_back", "index_of_tmax", "average_spacing", "end_clip_line",
@@ -457,21 +457,38 @@ def _run(name: str, store: Any, *args: Any, more: Sequence[Any] = ()) -> Run:
     return Run(number, _circles(store, count.value), units.value)
 
 
+def _entry(name: str, cell: bool, slots: Optional[int]) -> Tuple[str, int]:
+    """The entry that is called, and the slots of its store: as many as it holds at most, where nothing else is said."""
+    most = CELL_SLOTS if cell else SLOTS
+    return (name + "_cell" if cell else name, most if slots is None else slots)
+
+
 def refine_and_push(
-    section: Points, section_tol: float, tol: float, circles: Circles, circle: Inscribed, limit: int = NO_LIMIT, slots: int = SLOTS
+    section: Points, section_tol: float, tol: float, circles: Circles, circle: Inscribed, limit: int = NO_LIMIT, slots: Optional[int] = None, cell: bool = False
 ) -> Run:
-    """A circle offered to a list, refined until none waits."""
+    """A circle offered to a list, refined until none waits.
+
+    The store has `slots` slots, and as many as there are circles where these are more. It holds at most SLOTS circles, or with `cell`, by the entry
+    for the cell, CELL_SLOTS, and has as many slots where `slots` isn't given. Slots beyond that are lent and not used: with `cell` the 257th circle
+    that would be accepted is 15, and a list of 257 is refused with 4, whatever `slots` is."""
     p = _numbers(section)
-    store = _stored(circles, slots)
-    return _run("refine_and_push", store, p, len(p), section_tol, tol, store, len(store), len(circles), _stored([circle]), limit)
+    name, size = _entry("refine_and_push", cell, slots)
+    store = _stored(circles, size)
+    return _run(name, store, p, len(p), section_tol, tol, store, len(store), len(circles), _stored([circle]), limit)
 
 
-def march(section: Points, section_tol: float, tol: float, line: Line, limit: int = NO_LIMIT, slots: int = SLOTS) -> March:
-    """The circles on one side of a line, and the edges of the line's crossing."""
+def march(
+    section: Points, section_tol: float, tol: float, line: Line, limit: int = NO_LIMIT, slots: Optional[int] = None, cell: bool = False
+) -> March:
+    """The circles on one side of a line, to the right as it points, and the edges of the line's crossing.
+
+    The store has `slots` slots. It holds at most SLOTS circles, or with `cell`, by the entry for the cell, CELL_SLOTS, and has as many slots where
+    `slots` isn't given. Slots beyond that are lent and not used: with `cell` the 257th circle that would be accepted is 15, whatever `slots` is."""
     p = _numbers(section)
-    store = _stored((), slots)
+    name, size = _entry("march", cell, slots)
+    store = _stored((), size)
     edges, found = _Two(), ctypes.c_bool()
-    run = _run("march", store, p, len(p), section_tol, tol, *_line(line), store, len(store), limit, more=(edges, found))
+    run = _run(name, store, p, len(p), section_tol, tol, *_line(line), store, len(store), limit, more=(edges, found))
     return March(run.number, run.circles, run.units, (edges[0], edges[1]) if found.value else None)
 
 

@@ -12,7 +12,7 @@ from concurrent.futures import ThreadPoolExecutor
 from threading import Lock
 from typing import Any, Callable, List, Optional, Tuple
 
-from . import NO_LIMIT, SLOTS, WORDS
+from . import CELL_SLOTS, NO_LIMIT, SLOTS, WORDS
 from ._library import NoLibrary, load
 from .blade import Options, worked_out
 from .files import FORMATS, Reading, Unreadable, read
@@ -77,7 +77,9 @@ def parser() -> argparse.ArgumentParser:
     side.add_argument("--lower", type=float, nargs=2, metavar=("X", "Y"), help="a vector to the lower side")
     words.add_argument("--end", choices=("auto", "front", "back", "none"), default=default.end, help="which end's open edge is fitted (%(default)s)")
     words.add_argument("--limit", type=_whole(NO_LIMIT), default=default.limit, help="units at most in each run: the circles, and the open edge (no limit)")
-    words.add_argument("--slots", type=_whole(SLOTS), default=default.slots, help="circles at most (%(default)s)")
+    words.add_argument("--slots", type=_whole(SLOTS), help=f"circles at most, up to {SLOTS}, with --cell up to {CELL_SLOTS} (as many as that)")
+    words.add_argument("--march", action="store_true", help="one march: only the circles to the right of the reference line as it points, as they were marched, with no orientation and no open edge")
+    words.add_argument("--cell", action="store_true", help=f"with --march: by the entry for the cell, whose store holds {CELL_SLOTS} circles")
     words.add_argument("--points", metavar="FILE", help="write the points of the section, cleaned and cut, as x y lines; - is standard output")
     words.add_argument("--csv", metavar="FILE", help="write the circles as CSV; - is standard output")
     words.add_argument("--record", metavar="FILE", help="write the circles as a hand-over record, which is bytes: to a file, not to standard output")
@@ -93,9 +95,16 @@ def options_of(args: argparse.Namespace) -> Options:
         return None if v is None else (v[0], v[1])
 
     line = None if args.line is None else (args.line[0], args.line[1], args.line[2], args.line[3])
-    return Options(
-        args.section_tol, args.tol, args.force_closed, pair(args.between), line, pair(args.fwd), pair(args.airflow), args.curvature, pair(args.upper), pair(args.lower), args.end, args.limit, args.slots
-    )
+    most = CELL_SLOTS if args.cell else SLOTS
+    slots = most if args.slots is None else args.slots
+    if slots > most:
+        parser().error(f"argument --slots: {slots} is not within 0 to {most}, which is what the entry for the cell holds")
+    try:
+        return Options(
+            args.section_tol, args.tol, args.force_closed, pair(args.between), line, pair(args.fwd), pair(args.airflow), args.curvature, pair(args.upper), pair(args.lower), args.end, args.limit, slots, args.march, args.cell
+        )
+    except ValueError as error:
+        return parser().error(str(error))
 
 
 def reading_of(args: argparse.Namespace) -> Reading:

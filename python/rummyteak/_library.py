@@ -10,8 +10,9 @@ import sys
 from pathlib import Path
 from typing import Any
 
-# Circles that a store holds at most, and the largest limit: no limit is felt.
+# Circles that a store holds at most, the same by the entries for the cell, and the largest limit: no limit is felt.
 SLOTS = 1024
+CELL_SLOTS = 256
 NO_LIMIT = 2**32 - 1
 
 # The endings in words.
@@ -86,7 +87,9 @@ _arguments = {
     "try_inscribed": [*_slice, d, d, *_line, P, N],
     "inscribed_refined": [*_slice, d, d, P, P, P, B],
     "refine_and_push": [*_slice, d, d, *_slice, n, P, u, N, U],
+    "refine_and_push_cell": [*_slice, d, d, *_slice, n, P, u, N, U],
     "march": [*_slice, d, d, *_line, *_slice, u, N, U, N, B],
+    "march_cell": [*_slice, d, d, *_line, *_slice, u, N, U, N, B],
     "extract_circles": [*_slice, d, d, *_line, *_slice, u, N, U],
     "front_and_back": [*_slice, n, P, P],
     "index_of_tmax": [*_slice, n, N],

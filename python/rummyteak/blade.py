@@ -1,4 +1,5 @@
 """One section through all steps: cleaned, cut where a stretch of it is wanted, its circles found, oriented, its open edge fitted, its camber line drawn.
+Where one march is wanted, its circles lie on one side of the reference line and stay as the march left them: no orientation, no open edge.
 
 No rule stands here but which call follows which, and where the reference line is without one: across the middle of the longest chord."""
 
@@ -16,7 +17,8 @@ Pair = Tuple[float, float]
 @dataclass(frozen=True)
 class Options:
     """Every argument of the calls. Without a line it is across the middle of the longest chord; without `fwd` and `airflow` the greatest radius orients;
-    `end` is auto, front, back or none."""
+    `end` is auto, front, back or none. With `march` the circles are those of one march, to the right of the line as it points, and with `cell` too of one
+    by the entry for the cell. What only an extraction has doesn't go with a march, nor `cell` without one: that is a ValueError."""
 
     section_tol: float = 0.001
     tol: float = 0.01
@@ -31,6 +33,19 @@ class Options:
     end: str = "auto"
     limit: int = rt.NO_LIMIT
     slots: int = rt.SLOTS
+    march: bool = False
+    cell: bool = False
+
+    def __post_init__(self) -> None:
+        if self.cell and not self.march:
+            raise ValueError("an extraction has no entry for the cell: cell goes with march")
+        if self.march and (self.fwd or self.airflow or self.curvature or self.upper or self.lower or self.end in ("front", "back")):
+            raise ValueError("one march gives one side, as it was marched: fwd, airflow, curvature, upper, lower, and an end that is fitted, don't go with march")
+
+    @property
+    def held(self) -> int:
+        """The slots that the circles have: no more than the entry's store holds."""
+        return min(self.slots, rt.CELL_SLOTS if self.cell else rt.SLOTS)
 
 
 @dataclass
@@ -39,6 +54,9 @@ class Blade:
     but what its circles give is drawn."""
 
     points: int = 0
+    march: bool = False
+    cell: bool = False
+    slots: int = rt.SLOTS
     curve: Optional[rt.Curve2] = None
     stretch: Optional[rt.Piece] = None
     line: Optional[rt.Line2] = None
@@ -55,6 +73,11 @@ class Blade:
     thickest: Optional[int] = None
     number: int = 0
     step: str = ""
+
+    @property
+    def run(self) -> str:
+        """Which run gave the circles, in words; empty where it is an extraction."""
+        return f"one march, to the right of the line as it points; {'the entry for the cell, ' if self.cell else ''}{self.slots} slots" if self.march else ""
 
     @property
     def section(self) -> Optional[rt.Curve2]:
@@ -103,7 +126,7 @@ class _Steps:
 
     def __init__(self, points: Any, options: Options) -> None:
         self.points, self.options = rt._numbers(points), options
-        self.blade = Blade(points=len(self.points) // 2)
+        self.blade = Blade(points=len(self.points) // 2, march=options.march, cell=options.cell, slots=options.held)
 
     def cleaning(self) -> int:
         self.blade.curve = rt.from_points(self.points, self.options.section_tol, self.options.force_closed)
@@ -121,9 +144,15 @@ class _Steps:
         assert section is not None
         blade.line_given = o.line is not None
         blade.line = middle_line(section) if o.line is None else rt.Line2(*o.line)
-        run = rt.extract_circles(section, o.section_tol, o.tol, blade.line, o.limit, o.slots)
+        run: rt.Run
+        if o.march:
+            run = marched = rt.march(section, o.section_tol, o.tol, blade.line, o.limit, o.held, o.cell)
+            crosses = marched.edges is not None
+        else:
+            run = rt.extract_circles(section, o.section_tol, o.tol, blade.line, o.limit, o.slots)
+            crosses = bool(run.circles)
         blade.circles, blade.units = run.circles, run.units
-        if run.circles:
+        if crosses:
             blade.crossing = rt.crossing_line(section, o.section_tol, blade.line)
         return run.number
 
@@ -182,7 +211,8 @@ class _Steps:
 def worked_out(points: Any, options: Options) -> Blade:
     """All that is to be had of a section; its points are whatever the module takes as points."""
     steps = _Steps(points, options)
-    for step in (steps.cleaning, steps.stretch, steps.circles, steps.orientation, steps.open_edge):
+    whole = () if options.march else (steps.orientation, steps.open_edge)
+    for step in (steps.cleaning, steps.stretch, steps.circles, *whole):
         if not steps.blade.number:
             steps.take(step)
     steps.take(steps.camber_line)

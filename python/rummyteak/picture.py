@@ -131,7 +131,7 @@ def _legend(blade: Blade) -> List[Tuple[str, str]]:
     if blade.crossing is not None:
         rows.append((f'<path d="M-16,0H16" {_stroke(HIT, 5)}/>', "the edges that it crosses, {} and {}".format(*blade.crossing.edges)))
     if blade.circles:
-        rows.append((ring(CIRCLE, 1.2), f"{len(blade.circles)} inscribed circles, {blade.units} units"))
+        rows.append((ring(CIRCLE, 1.2), f"{len(blade.circles)} inscribed circles, {blade.units} units" + (", one march" if blade.march else "") + (", cell" if blade.cell else "")))
         rows.append((_dot((-7, 0), 3.5, P0) + _dot((7, 0), 3.5, P1), "their contacts, p0 and p1"))
     stop = _stopped(blade)
     if stop is not None:

@@ -8,7 +8,7 @@ import json
 from dataclasses import asdict
 from typing import Any, Dict, List, Tuple
 
-from . import WORDS, Inscribed, write_record
+from . import CELL_SLOTS, SLOTS, WORDS, Inscribed, write_record
 from .blade import Blade, Options, worked_out
 from .files import Reading, Unreadable, read
 
@@ -45,6 +45,10 @@ ADVICE = {
 }
 
 
+# The same of 15 by the entry for the cell: where its slots were fewer than it has, and where they were all of them.
+CELL_FULL = (f"hand in more --slots, up to {CELL_SLOTS}, or a larger --tol", f"hand in a larger --tol, or leave out --cell, by which there are {CELL_SLOTS} slots and not {SLOTS}")
+
+
 def table(name: str, blade: Blade) -> str:
     """The table that a person reads."""
     rows: List[Tuple[str, str]] = [("section", name)]
@@ -58,6 +62,8 @@ def table(name: str, blade: Blade) -> str:
         rows.append(("reference line", f"from ({d.ox:.6g}, {d.oy:.6g}) along ({d.dx:.6g}, {d.dy:.6g})" + ("" if blade.line_given else ", across the middle of the longest chord")))
     if blade.crossing is not None:
         rows.append(("crosses", "edges {} and {}".format(*blade.crossing.edges)))
+    if blade.march:
+        rows.append(("run", blade.run))
     rows.append(("circles", f"{len(blade.circles)}, {blade.units} units"))
     if blade.thickest is not None:
         c = blade.circles[blade.thickest]
@@ -75,7 +81,7 @@ def message(name: str, blade: Blade) -> str:
     """What was refused, in words, with the number and what to try; empty for a result."""
     if not blade.number:
         return ""
-    advice = ADVICE[blade.number]
+    advice = CELL_FULL[blade.slots == CELL_SLOTS] if blade.cell and blade.number == 15 else ADVICE[blade.number]
     return f"{name}: {blade.ending}. {advice[0].upper()}{advice[1:]}."
 
 

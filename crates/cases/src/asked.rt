@@ -191,29 +191,54 @@ fn ask_circle(q: &Question<'_>, out: &mut [f64], told: &mut Told) -> bool {
     true
 }
 
-// A march tells edges where it says that it has them; a fit puts out its point.
+// A refinement by the entry that is named, and its ending.
+fn ask_refinement(q: &Question<'_>, store: &mut [f64], count: &mut usize, units: &mut u32) -> u32 {
+    let args = q.args;
+    let [t, g, ..] = *args;
+    let c = numbers_from(args, 2);
+    match q.name {
+        b"refine_and_push_cell" => run::rummyteak_refine_and_push_cell(
+            q.section, t, g, store, q.place, &c, q.limit, count, units,
+        ),
+        _ => run::rummyteak_refine_and_push(
+            q.section, t, g, store, q.place, &c, q.limit, count, units,
+        ),
+    }
+}
+
+// A march by the entry that is named, and its ending. It tells edges where it says that it has them.
+fn ask_march(
+    q: &Question<'_>,
+    store: &mut [f64],
+    count: &mut usize,
+    units: &mut u32,
+    told: &mut Told,
+) -> u32 {
+    let [t, g, x, y, dx, dy, ..] = *q.args;
+    let mut edges = [0; 2];
+    let mut found = false;
+    let number = match q.name {
+        b"march_cell" => run::rummyteak_march_cell(
+            q.section, t, g, x, y, dx, dy, store, q.limit, count, units, &mut edges, &mut found,
+        ),
+        _ => run::rummyteak_march(
+            q.section, t, g, x, y, dx, dy, store, q.limit, count, units, &mut edges, &mut found,
+        ),
+    };
+    tell_edges(told, found, edges);
+    number
+}
+
+// A fit puts out its point.
 fn ask_run(q: &Question<'_>, store: &mut [f64], out: &mut [f64], told: &mut Told) -> bool {
     let [t, g, x, y, dx, dy, ..] = *q.args;
     let mut count = told[1] as usize;
     let mut units = u32::try_from(told[2]).unwrap_or(0);
     let number = match q.name {
-        b"refine_and_push" => {
-            let args = q.args;
-            let c = numbers_from(args, 2);
-            run::rummyteak_refine_and_push(
-                q.section, t, g, store, q.place, &c, q.limit, &mut count, &mut units,
-            )
+        b"refine_and_push" | b"refine_and_push_cell" => {
+            ask_refinement(q, store, &mut count, &mut units)
         }
-        b"march" => {
-            let mut edges = [0; 2];
-            let mut found = false;
-            let number = run::rummyteak_march(
-                q.section, t, g, x, y, dx, dy, store, q.limit, &mut count, &mut units, &mut edges,
-                &mut found,
-            );
-            tell_edges(told, found, edges);
-            number
-        }
+        b"march" | b"march_cell" => ask_march(q, store, &mut count, &mut units, told),
         b"extract_circles" => run::rummyteak_extract_circles(
             q.section, t, g, x, y, dx, dy, store, q.limit, &mut count, &mut units,
         ),

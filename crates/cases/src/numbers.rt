@@ -77,3 +77,10 @@ pub(crate) fn rank(numbers: &mut [f64]) {
 fn upright(x: f64) -> [f64; WIDTH] {
     [x, 1.00048828125, 0.99951171875, x, 0.0, x, 2.0, x, 18.0 - x]
 }
+
+// As many copies of a circle as there is room for.
+pub(crate) fn copies(numbers: &mut [f64], circle: [f64; WIDTH]) {
+    for slot in numbers.chunks_exact_mut(WIDTH) {
+        put(slot, &circle);
+    }
+}

@@ -1,6 +1,6 @@
 // What the lines of a table do: they set what is handed in, ask the library, and compare what it tells and leaves.
 use crate::case::{Case, SLOTS, limit_of};
-use crate::numbers::{are_same, holds, rank, row, write};
+use crate::numbers::{are_same, copies, holds, numbers_from, rank, row, write};
 use crate::table::{count, is_blank, whole, word};
 use inscribed::store::WIDTH;
 
@@ -47,6 +47,12 @@ pub(crate) fn is_right(line: &[u8], case: &mut Case) -> bool {
             let store = &mut case.left.store[..];
             rank(&mut store[..len]);
         }
+        b"copies" => {
+            let len = count(line, 1).min(SLOTS) * WIDTH;
+            let circle = numbers_from(&case.args, 2);
+            let store = &mut case.left.store[..];
+            copies(&mut store[..len], circle);
+        }
         b"keep" => case.kept = case.left,
         b"ask" => return case.ask(line, 1, limit_of(line, 4)),
         b"told" => return is_told(case, line),
@@ -61,6 +67,7 @@ pub(crate) fn is_right(line: &[u8], case: &mut Case) -> bool {
         b"limits" => return limits::keep(line, false, case),
         b"fits" => return limits::keep(line, true, case),
         b"agree" => return limits::agree(line, case),
+        b"slots" => return limits::fill(line, case),
         b"sample" => return sums::sample(line),
         b"root" => return sums::root(line),
         b"roots" => return sums::roots(line),

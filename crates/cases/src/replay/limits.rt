@@ -2,7 +2,7 @@
 use crate::asked::Told;
 use crate::case::{Case, Left, NO_LIMIT, limit_of};
 use crate::numbers::are_same;
-use crate::table::count;
+use crate::table::{whole, word};
 use inscribed::store::WIDTH;
 
 // What a run left and told, and what it began with.
@@ -55,6 +55,20 @@ impl Ran {
                 self.is_spent(limit) && (is_fit || self.is_start(plain, kept))
             }
     }
+
+    // Whether a run whose store has so many slots keeps to the same run with more of them: alike in all where that one leaves no more circles. Else it ends in 15 with as
+    // many circles, the first ones of that one's, within that one's units.
+    fn fills(&self, larger: &Ran, slots: u64, kept: &Left) -> bool {
+        self.has_same_edges(larger)
+            && if larger.told[1] <= slots {
+                self.is_same(larger)
+            } else {
+                self.told[..2] == [15, slots]
+                    && self.told[2] <= larger.told[2]
+                    && self.is_start(larger, kept)
+                    && are_same(&self.left.out, &kept.out)
+            }
+    }
 }
 
 // Whether the run that word 2 of the line names keeps to the plain one at each limit from word 1 up to two above its units.
@@ -77,6 +91,21 @@ pub(crate) fn agree(line: &[u8], case: &mut Case) -> bool {
     for limit in 0..limit_of(line, 1) {
         let a = run(line, 2, limit, case);
         if !run(line, 3, limit, case).is_same(&a) {
+            return false;
+        }
+    }
+    true
+}
+
+// Whether the run that word 2 of the line names, whose store has as many slots as word 1 says, keeps to the one that word 4 names at each limit from 0 up to two above the units of
+// the latter.
+pub(crate) fn fill(line: &[u8], case: &mut Case) -> bool {
+    case.kept = case.left;
+    let plain = run(line, 4, NO_LIMIT, case);
+    let end = (plain.told[2] % 1000) as u32 + 3;
+    for limit in 0..end {
+        let larger = run(line, 4, limit, case);
+        if !run(line, 2, limit, case).fills(&larger, whole(word(line, 1)), &case.kept) {
             return false;
         }
     }
