@@ -16,14 +16,14 @@ use Rattle.refine.specs.Machine.{State, refining, advancing, stopped}
 use Rattle.refine.specs.Report.{refused_on_entry, ran}
 use Rattle.refine.proofs.MoveLaws.{no_goes, no_pays, goes_no_pays}
 use Rattle.refine.proofs.SlotEntries.{two_reports, same_calls}
-use Rattle.refine.proofs.SlotLaws.{Within, Beyond, First, move_parts, TwoSlotLimits, two_slot_limits}
+use Rattle.refine.proofs.SlotLaws.{HasRoom, HasMore, First, move_parts, TwoSlotLimits, two_slot_limits}
 use Rattle.advance.specs.Advance.{look_ahead}
 use Rattle.camber.specs.March.{Marched, march_entry, start_of, started_run, not_started, after_start, march_after, march_step, march_run}
 use Rattle.camber.proofs.MarchMachine.{advance-goes, advance-pays, march_falls, march_grows, march-fits}
 use Rattle.errors.specs.declared.Refusal.TheVariants.{StoreFull}
 
 module _ (ns : List Float) (tol : Float) (m more : ℕ) (larger : m ≤ more) where
-  march_parts : (s : State) → Within m s → Parts (march_step ns tol m) (march_step ns tol more) (Err StoreFull) (Within m) (Beyond m) (First m) s
+  march_parts : (s : State) → HasRoom m s → Parts (march_step ns tol m) (march_step ns tol more) (Err StoreFull) (HasRoom m) (HasMore m) (First m) s
   unfolding march_step
   march_parts (refining cs []) h = alike refl (λ t p. let e : t ≡ advancing cs 0 = cc in rw e h) (λ t p. goes_no_pays p)
   march_parts (refining cs (b ∷ ws)) h = move_parts m ns tol more larger (march_step ns tol m) (march_step ns tol more) (λ x y z. refl) (λ x y z. refl) (λ x. refl) cs b ws h
@@ -35,7 +35,7 @@ module _ (ns : List Float) (tol : Float) (m more : ℕ) (larger : m ≤ more) wh
   march_parts (stopped cs r) h = alike refl (λ t p. no_goes p) (λ t p. no_pays p)
 
   -- from any state on that fits the smaller limit
-  pub two_marches : (full : ℕ → Bool) (s : State) (u : ℕ) → Within m s → TwoSlotLimits m (march_run ns tol m full s u) (march_run ns tol more full s u)
+  pub two_marches : (full : ℕ → Bool) (s : State) (u : ℕ) → HasRoom m s → TwoSlotLimits m (march_run ns tol m full s u) (march_run ns tol more full s u)
   two_marches full s u h =
       two_slot_limits m more larger (march_step ns tol m) (march_step ns tol more) (march_falls ns tol m) (march_falls ns tol more) (march_grows ns tol more) march_parts full s u h
 

@@ -5,11 +5,13 @@ ghost use Rattle.refine.specs.Law.{LimitLaw, SlotLaw};
 ghost use Rattle.camber.specs.March.{Marched, march_of, march_told, plain_march, marched_circles};
 
 /// The limit law of marches, on every input, at every limit of units and every slot limit: that of `march` at 1,024 slots, and that of `march_cell` at 256.
+/// A run under a limit is the plain run cut short: spent exactly where the plain run takes more units, its circles the first ones of those at every larger limit, and any other ending the same at every larger limit.
 pub fn limit_law()
     ensures { (m : Marched) (limit : ℕ) → LimitLaw m.section m.tol m.store 0 (march_of m) (plain_march m) (λ l. marched_circles m (under_limit l)) limit }
 {}
 
-/// Two marches that differ in their slot limits alone, `few` the smaller: within any limit of units, and without one. Their edges are the same.
+/// Two marches that differ in their slot limits alone, `few` no more than `more`: where the one with `more` leaves at most `few` circles, they are alike in all: ending, count, units and whole store.
+/// Else the one with `few` ends in 15 with the first `few` circles of the other, the store behind them as it was. It takes no more units than the other. So it is within any limit of units, the same for both, and without one. The edges are the same.
 pub fn slot_law()
     ensures limited { (m : Marched) (few more limit : ℕ) → few ≤ more
         → SlotLaw few 0 m.store (march_of (record m { slot_limit = few }) limit) (march_of (record m { slot_limit = more }) limit) }

@@ -158,6 +158,8 @@ pub fn march(
 }
 
 /// `march` for the cell, whose program has slots for 256: the store holds 256 circles at most, however long it is.
+///
+/// Refused on entry, with the store untouched: 1, 2, 3, 23, 6. Refused later (15 for a 257th circle), or spent (14): the store keeps the circles that it accepted.
 pub fn march_cell(
     section: &[f64],
     section_tol: f64,

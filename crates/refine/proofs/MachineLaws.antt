@@ -13,11 +13,11 @@ use lib.Seq.{drop-append-le}
 use lib.Ieee.{Float}
 use Rattle.errors.specs.Answer.{Answer}
 use Rattle.errors.specs.Lists.{last_of}
-use Rattle.runs.specs.Run.{goes, pays}
-use Rattle.runs.proofs.LimitLaws.{Grows}
+use Rattle.runs.specs.Run.{goes, pays, whole}
+use Rattle.runs.proofs.LimitLaws.{Grows, run_holds}
 use Rattle.circles.specs.Trial.{trial}
 use Rattle.inscribed.specs.declared.Inscribed.{Inscribed}
-use Rattle.refine.specs.Machine.{most_waiting, State, refining, advancing, stopped, circles_in, with_room, after_room, after_trial, refine_move, refine_step}
+use Rattle.refine.specs.Machine.{most_waiting, State, refining, advancing, stopped, circles_in, with_room, after_room, after_trial, refine_move, measure, refine_step, refine_run}
 use Rattle.refine.proofs.MoveLaws.{no_goes, no_pays, move_goes, move_pays}
 use Rattle.refine.specs.Law.{Settled}
 use Rattle.errors.specs.declared.Refusal.TheVariants.{StackFull, StoreFull}
@@ -246,3 +246,7 @@ module _ (ns : List Float) (tol : Float) (slots : ℕ) where
   refine-fits-pays (refining cs (b ∷ ws)) t p h = let m = move_pays ns tol slots b ws cs t p in rw m.3 (after_fits cs b ws (trial ns tol (last_of m.0 m.1) b) h)
   refine-fits-pays (advancing cs k) t p h = no_pays p
   refine-fits-pays (stopped cs n) t p h = no_pays p
+
+  pub refine-fits : (full : ℕ → Bool) (cs ws : List Inscribed) (u : ℕ) → length cs ≤ slots → length (circles_in (refine_run ns tol slots full cs ws u).state) ≤ slots
+  unfolding whole
+  refine-fits full cs ws u h = run_holds (refine_step ns tol slots) full Fits refine-fits-goes refine-fits-pays (suc (measure slots (refining cs ws))) (refining cs ws) u h

@@ -16,7 +16,7 @@ use Rattle.inscribed.specs.declared.Inscribed.{Inscribed}
 use Rattle.inscribed.proofs.StoreLaws.{stored_longer}
 use Rattle.refine.specs.Machine.{State, refining, advancing, stopped, circles_in, End, finished, refine_move, measure, refine_step, refine_run}
 use Rattle.refine.specs.Report.{RunReport, reported}
-use Rattle.refine.proofs.MachineLaws.{refine_grows, Part, Kept, refine_offered_goes, refine_offered_pays, Fits, refine-fits-goes, refine-fits-pays}
+use Rattle.refine.proofs.MachineLaws.{refine_grows, Part, Kept, refine_offered_goes, refine_offered_pays, refine-fits}
 use Rattle.errors.specs.declared.Refusal.TheVariants.{StoreFull}
 
 -- ---- one refinement
@@ -39,8 +39,7 @@ module _ (ns : List Float) (tol : Float) (slots limit : ℕ) (old : List Float) 
     fuel = suc (measure slots start)
 
     pub refined_fits : length (circles_in refined.state) ≤ slots
-    unfolding whole
-    refined_fits = run_holds (refine_step ns tol slots) full (Fits ns tol slots) (refine-fits-goes ns tol slots) (refine-fits-pays ns tol slots) fuel start u fits
+    refined_fits = refine-fits ns tol slots full cs (b ∷ []) u fits
 
     pub refined_units : refined.units ≤ limit
     unfolding whole

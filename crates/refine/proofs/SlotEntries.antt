@@ -2,7 +2,7 @@
 use mathlib.Core.Path.{◌≡◌, refl, sym, ap, ◌∙◌}
 use mathlib.Core.Bool.{Bool, true, false}
 use mathlib.Core.List.{List, [], ◌∷◌, ◌++◌, append-nil}
-use Prim.Native.Nat.{ℕ, suc, ◌*◌, ◌≤◌, ◌<◌, min}
+use Prim.Native.Nat.{ℕ, ◌*◌, ◌≤◌, ◌<◌, min}
 use native.Mathlib.Omega.{arith}
 use borrow.Author.Tests.{ltb-false, ltb-true, le-ltb, lt-ltb}
 use lib.Dec.{ltb}
@@ -11,25 +11,24 @@ use lib.Seq.{drop_at}
 use lib.Ieee.{Float}
 use Rattle.std.specs.Prelude.{Ok, Err}
 use Rattle.errors.specs.Answer.{Answer}
-use Rattle.runs.specs.Run.{Final, whole}
-use Rattle.runs.proofs.LimitLaws.{run_holds}
+use Rattle.runs.specs.Run.{Final}
 use Rattle.inscribed.specs.Store.{width, slots_within, circles_of, all_numbers, stored, bad_store_within, bad_count_within, any_bad}
 use Rattle.inscribed.specs.declared.Inscribed.{Inscribed}
 use Rattle.inscribed.proofs.StoreLaws.{length_all, length-circles}
 use Rattle.refine.specs.Law.{SlotLaw}
-use Rattle.refine.specs.Machine.{State, refining, circles_in, End, measure, refine_step, refine_run}
+use Rattle.refine.specs.Machine.{State, circles_in, End}
 use Rattle.refine.specs.Report.{Called, refused_on_entry, ran, reported, ending_number, count_of}
 use Rattle.refine.specs.Refinement.{Offer, refine_entry, after_entry, refinement, offered_run}
 use Rattle.refine.proofs.LawOfRuns.{first_numbers}
-use Rattle.refine.proofs.MachineLaws.{Fits, refine-fits-goes, refine-fits-pays}
+use Rattle.refine.proofs.MachineLaws.{refine-fits}
 use Rattle.refine.proofs.SlotLaws.{TwoSlotLimits, two_refinements}
 use Rattle.refine.proofs.RefinementLaw.{entry_count}
 
 -- ---- the reports of two runs over one store
 
-behind_of : (cs : List Inscribed) (old : List Float) → drop (width * length cs) (stored cs old) ≡ drop (width * length cs) old
+rest_of : (cs : List Inscribed) (old : List Float) → drop (width * length cs) (stored cs old) ≡ drop (width * length cs) old
 unfolding stored
-behind_of cs old = drop_at (all_numbers cs) (drop (width * length cs) old) (width * length cs) (length_all cs)
+rest_of cs old = drop_at (all_numbers cs) (drop (width * length cs) old) (width * length cs) (length_all cs)
 
 -- `held` is the room that the store has within the smaller limit m: it is m, or the larger run leaves no more than that
 module _ (m held : ℕ) (old : List Float) (count : ℕ) (o p : Final State End) (is : TwoSlotLimits held o p)
@@ -53,8 +52,8 @@ module _ (m held : ℕ) (old : List Float) (count : ℕ) (o p : Final State End)
         (ap (λ (x : List Inscribed). take (width * length (circles_in o.state)) (stored x old)) (sym (append-nil (circles_in o.state))) ∙ first_numbers (circles_in o.state) [] old
         ∙ sym (first_numbers (circles_in o.state) (drop m (circles_in p.state)) old))
 
-    behind_numbers : drop (width * m) (stored (circles_in o.state) old) ≡ drop (width * m) old
-    behind_numbers = ap (λ (k : ℕ). drop (width * k) (stored (circles_in o.state) old)) (sym long) ∙ behind_of (circles_in o.state) old ∙ ap (λ (k : ℕ). drop (width * k) old) long
+    rest_numbers : drop (width * m) (stored (circles_in o.state) old) ≡ drop (width * m) old
+    rest_numbers = ap (λ (k : ℕ). drop (width * k) (stored (circles_in o.state) old)) (sym long) ∙ rest_of (circles_in o.state) old ∙ ap (λ (k : ℕ). drop (width * k) old) long
 
   pub two_reports : SlotLaw m count old (ran (reported old o)) (ran (reported old p))
   unfolding reported
@@ -63,7 +62,7 @@ module _ (m held : ℕ) (old : List Float) (count : ℕ) (o p : Final State End)
     full = λ h. ap ending_number (is.is_full (more h));
     counted = λ h. long h;
     first = λ h. same_first h;
-    behind = λ h. behind_numbers h;
+    rest = λ h. rest_numbers h;
     sooner = is.sooner;
   }
 
@@ -74,7 +73,7 @@ same_calls c fits = record {
   full = λ h. absurd (omega (arith, h, fits));
   counted = λ h. absurd (omega (arith, h, fits));
   first = λ h. refl;
-  behind = λ h. absurd (omega (arith, h, fits));
+  rest = λ h. absurd (omega (arith, h, fits));
   sooner = omega arith;
 }
 
@@ -108,12 +107,6 @@ module _ (o : Offer) (m more : ℕ) (full : ℕ → Bool) (larger : m ≤ more) 
   abbrev olds : List Inscribed
   olds = circles_of o.store o.count
 
-  refined_fits : (slots : ℕ) → o.count ≤ slots → length (circles_in (refine_run o.section o.tol slots full olds (o.circle ∷ []) 0).state) ≤ slots
-  unfolding whole
-  refined_fits slots h =
-      run_holds (refine_step o.section o.tol slots) full (Fits o.section o.tol slots) (refine-fits-goes o.section o.tol slots) (refine-fits-pays o.section o.tol slots)
-      (suc (measure slots (refining olds (o.circle ∷ [])))) (refining olds (o.circle ∷ [])) 0 (omega (arith, length-circles o.store 0 o.count, h))
-
   pub two_offers : SlotLaw m o.count o.store (refinement (limited m) full) (refinement (limited more) full)
   unfolding refinement after_entry
   two_offers = rw same_entry (go (refine_entry (limited more)) refl)
@@ -122,7 +115,7 @@ module _ (o : Offer) (m more : ℕ) (full : ℕ → Bool) (larger : m ≤ more) 
       go (Err r) e = same_calls (refused_on_entry r o.store) fits
       go (Ok passed) e =
           let room = entry_count (limited m) (same_entry ∙ e) in
-          let most = refined_fits (slots_within more o.store) (entry_count (limited more) e) in
+          let most = refine-fits o.section o.tol (slots_within more o.store) full olds (o.circle ∷ []) 0 (omega (arith, length-circles o.store 0 o.count, entry_count (limited more) e)) in
           two_reports m (slots_within m o.store) o.store o.count (offered_run (limited m) full) (offered_run (limited more) full)
           (two_refinements o.section o.tol (slots_within m o.store) (slots_within more o.store) (omega (arith, larger)) full olds (o.circle ∷ []) 0 (omega (arith, length-circles o.store 0 o.count, room)))
           (λ h. omega (arith, h, most, larger)) (λ h. omega (arith, h, most, larger))

@@ -26,18 +26,18 @@ use Rattle.errors.specs.declared.Refusal.TheVariants.{StackFull, StoreFull}
 
 module _ (m : ℕ) where
   -- no more circles than the smaller limit, and more
-  abbrev pub Within : State → Type 0
-  Within s = length (circles_in s) ≤ m
+  abbrev pub HasRoom : State → Type 0
+  HasRoom s = length (circles_in s) ≤ m
 
-  abbrev pub Beyond : State → Type 0
-  Beyond s = m < length (circles_in s)
+  abbrev pub HasMore : State → Type 0
+  HasMore s = m < length (circles_in s)
 
   -- as many circles as the smaller limit, the first ones of the other's
   abbrev pub First : State → State → Type 0
   First v t = (length (circles_in v) ≡ m) × Part v t
 
-  pub grows_beyond : (s t : State) → Part s t → Beyond s → Beyond t
-  grows_beyond s t p h = omega (arith, h, ap length p.1, length-append (circles_in s) p.0)
+  pub grows_more : (s t : State) → Part s t → HasMore s → HasMore t
+  grows_more s t p h = omega (arith, h, ap length p.1, length-append (circles_in s) p.0)
 
   pub grows_first : (v s t : State) → Part s t → First v s → First v t
   grows_first v s t p h = (h.0, part_chain v s t h.1 p)
@@ -48,7 +48,7 @@ module _ (m : ℕ) where
       (large-moves : (cs : List Inscribed) (b : Inscribed) (ws : List Inscribed) → large (refining cs (b ∷ ws)) ≡ refine_move ns tol more cs b ws)
       (small-stops : (cs : List Inscribed) → small (stopped cs StoreFull) ≡ ends (Err StoreFull)) where
     abbrev pub MoveParts : State → Type 0
-    MoveParts s = Parts small large (Err StoreFull) Within Beyond First s
+    MoveParts s = Parts small large (Err StoreFull) HasRoom HasMore First s
 
     pub move_parts : (cs : List Inscribed) (b : Inscribed) (ws : List Inscribed) → length cs ≤ m → MoveParts (refining cs (b ∷ ws))
     unfolding refine_move after_trial with_room
@@ -86,7 +86,7 @@ module _ (m : ℕ) where
         at-large r e = large-moves (c ∷ cs) b ws ∙ ap (λ (x : Answer (Option Inscribed)). pays (after_trial more (c ∷ cs) b ws x)) e
 
         -- the same state for both
-        same : (r : Answer (Option Inscribed)) → trial ns tol (last_of c cs) b ≡ r → after_trial m (c ∷ cs) b ws r ≡ after_trial more (c ∷ cs) b ws r → Within (after_trial more (c ∷ cs) b ws r) → MoveParts s₀
+        same : (r : Answer (Option Inscribed)) → trial ns tol (last_of c cs) b ≡ r → after_trial m (c ∷ cs) b ws r ≡ after_trial more (c ∷ cs) b ws r → HasRoom (after_trial more (c ∷ cs) b ws r) → MoveParts s₀
         same r e p w =
             alike (at-small r e ∙ ap (λ (t : State). pays t) p ∙ sym (at-large r e))
             (λ t k. pays_no_goes (sym (at-large r e) ∙ k))
@@ -96,7 +96,7 @@ module _ (m : ℕ) where
         tried (Err n) e = same (Err n) e refl h
         tried (Ok (Some d)) e = same (Ok (Some d)) e refl (go (leb most_waiting (suc (length ws))))
           where
-            go : (x : Bool) → Within (after_room (c ∷ cs) b ws (cond x (Err StackFull) (Ok (Some d))))
+            go : (x : Bool) → HasRoom (after_room (c ∷ cs) b ws (cond x (Err StackFull) (Ok (Some d))))
             go true = h
             go false = h
         tried (Ok None) e =
@@ -109,12 +109,12 @@ module _ (m : ℕ) where
             after x = after_room (c ∷ cs) b ws (cond x (Err StoreFull) (Ok None))
 
             go : (x y : Bool) → leb m n ≡ x → leb more n ≡ y → (x ≡ true → m ≤ n) → (x ≡ false → n < m) → (y ≡ true → more ≤ n) → (y ≡ false → n < more) → MoveParts s₀
-            go true true p q a₁ a₂ b₁ b₂ = same (Ok None) e (ap after (p ∙ sym q)) (let W : Bool → Type 0 = λ (x : Bool). Within (after x) in subst W (sym q) h)
+            go true true p q a₁ a₂ b₁ b₂ = same (Ok None) e (ap after (p ∙ sym q)) (let W : Bool → Type 0 = λ (x : Bool). HasRoom (after x) in subst W (sym q) h)
             go true false p q a₁ a₂ b₁ b₂ =
                 parts_paid (refining ((c ∷ cs) ++ (b ∷ [])) ws) (stopped (c ∷ cs) StoreFull)
                 (at-large (Ok None) e ∙ ap (λ (x : Bool). pays (after x)) q) (at-small (Ok None) e ∙ ap (λ (x : Bool). pays (after x)) p) (small-stops (c ∷ cs))
                 (omega (arith, a₁ refl, length-append (c ∷ cs) (b ∷ []))) (omega (arith, a₁ refl, h), (b ∷ [], refl))
-            go false false p q a₁ a₂ b₁ b₂ = same (Ok None) e (ap after (p ∙ sym q)) (let W : Bool → Type 0 = λ (x : Bool). Within (after x) in subst W (sym q) (omega (arith, a₂ refl, length-append (c ∷ cs) (b ∷ []))))
+            go false false p q a₁ a₂ b₁ b₂ = same (Ok None) e (ap after (p ∙ sym q)) (let W : Bool → Type 0 = λ (x : Bool). HasRoom (after x) in subst W (sym q) (omega (arith, a₂ refl, length-append (c ∷ cs) (b ∷ []))))
             go false true p q a₁ a₂ b₁ b₂ = absurd (omega (arith, a₂ refl, b₁ refl, larger))
 
 -- "where the larger run leaves no more circles than the smaller limit, both runs are alike in all; else the smaller ends in 15 with as many of the larger's first circles as its limit"
@@ -132,17 +132,17 @@ measure_grows m more h (advancing cs k) = omega arith
 measure_grows m more h (stopped cs r) = omega arith
 
 module _ (m more : ℕ) (larger : m ≤ more) (small large : State → Move State End) (small-falls : Falls small (measure m)) (falls : Falls large (measure more)) (grows : Grows large Part)
-    (parts : (s : State) → Within m s → Parts small large (Err StoreFull) (Within m) (Beyond m) (First m) s) (full : ℕ → Bool) (s : State) (u : ℕ) (h : Within m s) where
+    (parts : (s : State) → HasRoom m s → Parts small large (Err StoreFull) (HasRoom m) (HasMore m) (First m) s) (full : ℕ → Bool) (s : State) (u : ℕ) (h : HasRoom m s) where
   abbrev o : Final State End
   o = whole small (measure m) full s u
 
   abbrev p : Final State End
   p = whole large (measure more) full s u
 
-  told : Compared small large (Err StoreFull) (Within m) (Beyond m) (First m) o p → TwoSlotLimits m o p
+  told : Compared small large (Err StoreFull) (HasRoom m) (HasMore m) (First m) o p → TwoSlotLimits m o p
   told (inl k) = record { alike_in_all = λ b. k.0; is_full = λ b. absurd (omega (arith, b, k.1)); first_circles = λ b. absurd (omega (arith, b, k.1)); sooner = rw k.0 (omega arith) }
   told (inr k) = record {
-    alike_in_all = λ b. absurd (omega (arith, b, k.beyond));
+    alike_in_all = λ b. absurd (omega (arith, b, k.has_more));
     is_full = λ b. k.full;
     first_circles = λ b. rw k.first.1.1 (sym (take_at (circles_in o.state) k.first.1.0 m k.first.0));
     sooner = k.sooner;
@@ -151,14 +151,14 @@ module _ (m more : ℕ) (larger : m ≤ more) (small large : State → Move Stat
   pub two_slot_limits : TwoSlotLimits m o p
   two_slot_limits =
       told
-      (whole_compared small large (Err StoreFull) (Within m) (Beyond m) (First m) (measure more) falls full parts
-      (λ a b q. grows_beyond m a b (grows.goes_on a b q)) (λ a b q. grows_beyond m a b (grows.pays_on a b q)) (λ v a b q. grows_first m v a b (grows.goes_on a b q)) (λ v a b q. grows_first m v a b (grows.pays_on a b q))
+      (whole_compared small large (Err StoreFull) (HasRoom m) (HasMore m) (First m) (measure more) falls full parts
+      (λ a b q. grows_more m a b (grows.goes_on a b q)) (λ a b q. grows_more m a b (grows.pays_on a b q)) (λ v a b q. grows_first m v a b (grows.goes_on a b q)) (λ v a b q. grows_first m v a b (grows.pays_on a b q))
       (measure m) small-falls s u (measure_grows m more larger s) h)
 
 -- ---- two refinements
 
 module _ (ns : List Float) (tol : Float) (m more : ℕ) (larger : m ≤ more) where
-  refine_parts : (s : State) → Within m s → Parts (refine_step ns tol m) (refine_step ns tol more) (Err StoreFull) (Within m) (Beyond m) (First m) s
+  refine_parts : (s : State) → HasRoom m s → Parts (refine_step ns tol m) (refine_step ns tol more) (Err StoreFull) (HasRoom m) (HasMore m) (First m) s
   unfolding refine_step
   refine_parts (refining cs []) h = alike refl (λ t p. no_goes p) (λ t p. no_pays p)
   refine_parts (refining cs (b ∷ ws)) h = move_parts m ns tol more larger (refine_step ns tol m) (refine_step ns tol more) (λ x y z. refl) (λ x y z. refl) (λ x. refl) cs b ws h

@@ -42,7 +42,7 @@ pub record LimitLaw (section : List Float) (tol : Float) (old : List Float) (cou
 abbrev pub OfferedLast : Inscribed → (ℕ → Called (Unit {0})) → (ℕ → List Inscribed) → ℕ → Type 0
 OfferedLast circle at accepted limit = called_number (at limit) ≡ 0 → (before : List Inscribed) × (accepted limit ≡ before ++ (circle ∷ []))
 
--- Two slot limits m and more, m the smaller, "a stated count fitting both": of what two calls give that differ in nothing else.
+-- Two slot limits, m the smaller or equal one, "a stated count fitting both": of what two calls give that differ in nothing else.
 pub record SlotLaw (m count : ℕ) (old : List Float) (smaller larger : Called (Unit {0})) : Type 0 where
   -- "where the larger run leaves no more circles than the smaller limit, both runs are alike in all"
   pub alike : count_of count larger ≤ m → smaller ≡ larger
@@ -50,8 +50,8 @@ pub record SlotLaw (m count : ℕ) (old : List Float) (smaller larger : Called (
   pub full : m < count_of count larger → called_number smaller ≡ 15
   pub counted : m < count_of count larger → count_of count smaller ≡ m
   pub first : m < count_of count larger → take (width * m) (store_of smaller) ≡ take (width * m) (store_of larger)
-  -- behind these the store is as it was
-  pub behind : m < count_of count larger → drop (width * m) (store_of smaller) ≡ drop (width * m) old
+  -- the store behind these is as it was
+  pub rest : m < count_of count larger → drop (width * m) (store_of smaller) ≡ drop (width * m) old
   -- the smaller takes no unit that the larger doesn't take
   pub sooner : units_of smaller ≤ units_of larger
 

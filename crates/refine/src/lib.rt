@@ -177,6 +177,8 @@ pub fn refine_and_push(
 }
 
 /// `refine_and_push` for the cell, whose program has slots for 256: the store holds 256 circles at most, however long it is, in the tests of 2 and 4 too.
+///
+/// Refused on entry, with the store untouched: 1, 2, 3, 23, 4, 6; 4 is a count above 256 too. Refused later (15 for a 257th circle), or spent (14): the store keeps the circles that it accepted.
 pub fn refine_and_push_cell(
     section: &[f64],
     section_tol: f64,

@@ -32,6 +32,8 @@ pub fn rummyteak_refine_and_push(
 }
 
 /// `rummyteak_refine_and_push` for the cell: the store holds 256 circles at most.
+///
+/// Refused on entry, with the store untouched: 1, 2, 3, 23, 4, 6; 4 is a count above 256 too. Refused later (15 for a 257th circle), or spent (14): the store keeps the circles that it accepted.
 pub fn rummyteak_refine_and_push_cell(
     section: &[f64],
     section_tol: f64,
@@ -79,6 +81,8 @@ pub fn rummyteak_march(
 }
 
 /// `rummyteak_march` for the cell: the store holds 256 circles at most.
+///
+/// Refused on entry, with the store untouched: 1, 2, 3, 23, 6. Refused later (15 for a 257th circle), or spent (14): the store keeps the circles that it accepted.
 pub fn rummyteak_march_cell(
     section: &[f64],
     section_tol: f64,
