@@ -8,3 +8,7 @@ pub mod EmptyLaws
 pub mod RefinedLaws
 pub mod SlotLaws
 pub mod SlotEntries
+pub mod ThinLaws
+pub mod ThinLoop
+pub mod ThinPlaces
+pub mod ThinningLaw

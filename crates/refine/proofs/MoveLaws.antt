@@ -19,16 +19,16 @@ use Rattle.refine.specs.Machine.{most_waiting, State, refining, advancing, stopp
 use Rattle.errors.specs.declared.Refusal.TheVariants.{StackFull, StoreFull}
 
 -- two moves that differ
-pub no_goes : {A : Type 0} {e : End} {t : State} → ◌≡◌ {A = Move State End} (ends e) (goes t) → A
+pub no_goes : {A S E : Type 0} {e : E} {t : S} → ◌≡◌ {A = Move S E} (ends e) (goes t) → A
 no_goes p = let z : ◌≡◌ {A = ℕ} 0 1 = cc in absurd (omega arith)
 
-pub no_pays : {A : Type 0} {e : End} {t : State} → ◌≡◌ {A = Move State End} (ends e) (pays t) → A
+pub no_pays : {A S E : Type 0} {e : E} {t : S} → ◌≡◌ {A = Move S E} (ends e) (pays t) → A
 no_pays p = let z : ◌≡◌ {A = ℕ} 0 1 = cc in absurd (omega arith)
 
-pub pays_no_goes : {A : Type 0} {s t : State} → ◌≡◌ {A = Move State End} (pays s) (goes t) → A
+pub pays_no_goes : {A S E : Type 0} {s t : S} → ◌≡◌ {A = Move S E} (pays s) (goes t) → A
 pays_no_goes p = let z : ◌≡◌ {A = ℕ} 0 1 = cc in absurd (omega arith)
 
-pub goes_no_pays : {A : Type 0} {s t : State} → ◌≡◌ {A = Move State End} (goes s) (pays t) → A
+pub goes_no_pays : {A S E : Type 0} {s t : S} → ◌≡◌ {A = Move S E} (goes s) (pays t) → A
 goes_no_pays p = let z : ◌≡◌ {A = ℕ} 0 1 = cc in absurd (omega arith)
 
 -- ---- what a move while circles wait leads to

@@ -4,3 +4,5 @@ pub mod Report
 pub mod Code
 pub mod Refinement
 pub mod Law
+pub mod Thinning
+pub mod ThinLaw

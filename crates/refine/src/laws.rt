@@ -1,8 +1,13 @@
-//! The laws of refinements: each is the contract of a function without a parameter, whose body is empty. What it says is a record of `specs/Law`, a field to a sentence.
-ghost use Rattle.std.specs.Prelude.{ℕ, ◌≤◌};
+//! The laws of refinements and thinnings: each is the contract of a function without a parameter, whose body is empty. What it says is a record of `specs/Law` or `specs/ThinLaw`, a field to a sentence.
+ghost use Rattle.std.specs.Prelude.{◌≡◌, false, ℕ, ◌≤◌, Ok};
 ghost use Rattle.runs.specs.Run.{under_limit};
+ghost use Rattle.inscribed.specs.Store.{bad_circle};
+ghost use Rattle.inscribed.specs.declared.Inscribed.{Inscribed};
 ghost use Rattle.refine.specs.Law.{LimitLaw, OfferedLast, SlotLaw};
 ghost use Rattle.refine.specs.Refinement.{Offer, refine_of, plain_refinement, accepted};
+ghost use Rattle.refine.specs.Report.{count_of};
+ghost use Rattle.refine.specs.Thinning.{Unthinned, thin_entry, thin_of, plain_thinning};
+ghost use Rattle.refine.specs.ThinLaw.{ThinLaw, ThinLimitLaw, offer_after, LaterRefinementLaw};
 
 /// The limit law of refinements, on every input, at every limit of units and every slot limit: that of `refine_and_push` at 1,024 slots, and that of `refine_and_push_cell` at 256.
 /// A run under a limit is the plain run cut short: spent exactly where the plain run takes more units, its circles the first ones of those at every larger limit, and any other ending the same at every larger limit.
@@ -22,4 +27,22 @@ pub fn slot_law()
         → SlotLaw few o.count o.store (refine_of (record o { slot_limit = few }) limit) (refine_of (record o { slot_limit = more }) limit) }
     ensures plain { (o : Offer) (few more : ℕ) → few ≤ more → o.count ≤ few
         → SlotLaw few o.count o.store (plain_refinement (record o { slot_limit = few })) (plain_refinement (record o { slot_limit = more })) }
+{}
+
+/// What a thinning leaves, on every input, at every limit of units and without one.
+pub fn thin_law()
+    ensures limited { (t : Unthinned) (limit : ℕ) → ThinLaw t.section t.tol t.store t.count (thin_of t limit) }
+    ensures plain { (t : Unthinned) → ThinLaw t.section t.tol t.store t.count (plain_thinning t) }
+{}
+
+/// The limit law of thinnings, on every input, at every limit of units.
+pub fn thin_limit_law()
+    ensures { (t : Unthinned) (limit : ℕ) → ThinLimitLaw (thin_of t) (plain_thinning t) limit }
+{}
+
+/// A later refinement of what a thinning left, by an entry whose slot limit holds the circles left: any circle that passes test 2 can be
+/// offered, and what is accepted goes into the freed slots, the first one first.
+pub fn later_refinement_law()
+    ensures { (t : Unthinned) (limit slot_limit later : ℕ) (circle : Inscribed) → thin_entry t ≡ Ok tt → bad_circle circle ≡ false
+        → count_of t.count (thin_of t limit) ≤ slot_limit → LaterRefinementLaw (offer_after t (thin_of t limit) slot_limit circle) later }
 {}

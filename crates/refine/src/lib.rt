@@ -1,9 +1,10 @@
-// Refinement: `refine_and_push` as a run counted in units, within a limit.
+// Refinement: `refine_and_push` as a run counted in units, within a limit. The circles of a store are thinned in `thinning`, and `laws` has what holds of both.
 #![tactic(auto)]
 
 pub mod checked;
 pub mod laws;
 mod moves;
+pub mod thinning;
 mod waiting;
 
 ghost use Rattle.curve2.specs.Lent.{IsLent};

@@ -2,6 +2,7 @@
 ghost use Rattle.std.specs.Prelude.{◌≡◌};
 ghost use Rattle.inscribed.specs.Store.{circle_at, most_slots, cell_slots};
 ghost use Rattle.refine.specs.Refinement.{refine_of};
+ghost use Rattle.refine.specs.Thinning.{thin_of};
 ghost use Rattle.camber.specs.March.{march_of, march_told};
 ghost use Rattle.camber.specs.Extraction.{extraction_of};
 ghost use Rattle.rummyteak.specs.Told.{given_line, told_run, start_cells, start_left};
@@ -50,6 +51,28 @@ pub fn rummyteak_refine_and_push_cell(
     let offered = given::circle_of(circle);
     telling::tell_run(
         refine::refine_and_push_cell(section, section_tol, tol, store, stated, offered, limit),
+        count,
+        units,
+    )
+}
+
+/// The circles of a store that holds `stated`, thinned within a limit of units: kept ones move up, and the slots that they free become zero.
+///
+/// Refused on entry, with nothing written: 1, 2, 3, 23, 4, 6. Refused in a trial (10, 11, 12), or spent (14): the whole store is as it was, and count and units are written.
+pub fn rummyteak_thin(
+    section: &[f64],
+    section_tol: f64,
+    tol: f64,
+    store: &mut [f64],
+    stated: usize,
+    limit: u32,
+    count: &mut usize,
+    units: &mut u32,
+) -> u32
+    ensures { (record { number = result; count = count.new; units = units.new; store = store.new }) ≡ told_run count.old units.old (thin_of (record { section = section.now; section_tol = section_tol; tol = tol; store = store.old; count = stated }) limit) }
+{
+    telling::tell_run(
+        refine::thinning::thin_circles(section, section_tol, tol, store, stated, limit),
         count,
         units,
     )
