@@ -5,8 +5,9 @@
  *
  * What a call writes. A result writes what the function's comment says. A refusal writes nothing, but for a run
  * (refine_and_push, march, extract_circles, fit_open_edge) that was not refused on entry: it keeps its accepted circles in the
- * store and writes count and units. The entries for the cell (refine_and_push_cell, march_cell) are such runs. An output
- * keeps what stands behind the result.
+ * store and writes count and units. The entries for the cell (refine_and_push_cell, march_cell) are such runs. A thinning (thin)
+ * that is refused later, or spent, writes count and units too, and leaves the whole store as it was. An output keeps what stands
+ * behind the result.
  *
  * What the caller owes. A pointer with a length points to that many numbers (with length 0 it may be null); a pointer
  * without one points to as many as its comment says. What is written overlaps nothing else that is handed in.
@@ -207,14 +208,36 @@ uint32_t rummyteak_extract_circles(const double *section, size_t section_len, do
  * all: the number, count and units, the edges, and every bit of the store. Else the cell's ends in 15 with RUMMYTEAK_CELL_SLOTS
  * circles, the first ones of the run above bit for bit, within its units, with the same edges, and the store behind them is as
  * it was. This holds at every limit, the same for both.
- * Extraction and the fit of the open edge have no entry for the cell, and what is asked of a list of circles needs none: a store
- * that was filled here is handed to those functions as it is. They hold up to RUMMYTEAK_SLOTS. */
+ * Extraction and the fit of the open edge have no entry for the cell, and what is asked of a list of circles needs none, nor does
+ * a thinning: a store that was filled here is handed to those functions as it is. They hold up to RUMMYTEAK_SLOTS. */
 uint32_t rummyteak_refine_and_push_cell(const double *section, size_t section_len, double section_tol, double tol,
                                         double *store, size_t store_len, size_t stated, const double *circle,
                                         uint32_t limit, size_t *count, uint32_t *units);
 uint32_t rummyteak_march_cell(const double *section, size_t section_len, double section_tol, double tol, double ox,
                               double oy, double dx, double dy, double *store, size_t store_len, uint32_t limit,
                               size_t *count, uint32_t *units, size_t *edges, bool *found);
+
+/* Thins the circles of a store that holds `stated`, as a finished march left them: with the section and the tolerances of the
+ * march.
+ * Tested on entry, in this order: 1; 2, of the section and of the circles in use as far as the store holds them; 3; 23; 4, a
+ * stated count above what the store holds, which is RUMMYTEAK_SLOTS at most; 6. A refusal on entry writes nothing.
+ * It goes from the front. A circle between the first and the last is dropped where the trial of the last kept circle before it,
+ * as a, and the circle behind it, as b, adds none (inscribed_refined); else it is kept. The first and the last circle are kept.
+ * Each trial is one unit, taken before the trial: a thinning that finishes takes as many units as there are circles between the
+ * first and the last, and none where there are fewer than three circles.
+ * A result: the kept circles stand from the store's start on, in their order and without gaps, each of their numbers as it was,
+ * bit for bit. All nine numbers of each slot that is freed are +0. What stood behind the stated count stays. count is how many
+ * circles were kept.
+ * Spent (14), or refused in a trial (10, 11, 12): the whole store is as it was, count is the stated count, and units those that
+ * were taken, that of the refused trial too.
+ * If no neighbouring pair would be refined before, which is to say that the trial of each circle and the one behind it adds none,
+ * no neighbouring pair would be refined after. A limit alters nothing: a thinning is spent exactly where it would take more units
+ * than the limit, and is else the same at every limit. Circles that were thinned may become fewer still by a second thinning.
+ * The slots that are freed are free for a refinement that is handed the store with the new count: refine_and_push writes the
+ * circles that it accepts into them, from the first one on. There is no entry for the cell: a store that was filled by one is
+ * handed in as it is. */
+uint32_t rummyteak_thin(const double *section, size_t section_len, double section_tol, double tol, double *store,
+                        size_t store_len, size_t stated, uint32_t limit, size_t *count, uint32_t *units);
 
 /* ---- a list of circles */
 

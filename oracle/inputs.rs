@@ -457,6 +457,7 @@ fn circles(g: &mut Generator, s: &Shape, tol: f64, section: &[f64], tally: &mut 
     for front in [false, true] {
         let t = [tol, general_tolerance(g, s)];
         tally.compare(Call::IsOpenAtEnd(count, front), section, &t, &list);
+        tally.compare(Call::Thin(count), section, &t, &list);
     }
 }
 
@@ -545,7 +546,8 @@ fn runs(g: &mut Generator, s: &Shape, tol: f64, section: &[f64], tally: &mut Tal
             }
         }
         let store = vec![REST; WIDTH * SLOTS + g.below(WIDTH)];
-        tally.compare(Call::March, section, &join(t, &l), &store);
+        let marched = tally.compare(Call::March, section, &join(t, &l), &store);
+        tally.compare(Call::Thin(marched.told[1] as usize), section, &t, &marched.store);
         tally.compare(Call::MarchCell, section, &join(t, &l), &store);
         // A finer tolerance, by which a march may leave more circles than the cell holds.
         if k == 0 && section.len() < 80 {
@@ -558,6 +560,7 @@ fn runs(g: &mut Generator, s: &Shape, tol: f64, section: &[f64], tally: &mut Tal
         if whole.told[0] != 0 || count == 0 {
             continue;
         }
+        tally.compare(Call::Thin(count), section, &t, &whole.store);
         if k == 0 {
             lists(g, s, &whole.store, count, tally);
         }

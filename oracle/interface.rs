@@ -37,6 +37,9 @@ unsafe extern "C" {
         p: In, n: usize, section_tol: f64, tol: f64, ox: f64, oy: f64, dx: f64, dy: f64, s: Out, l: usize, limit: u32, count: &mut usize,
         units: &mut u32,
     ) -> u32;
+    pub fn rummyteak_thin(
+        p: In, n: usize, section_tol: f64, tol: f64, s: Out, l: usize, stated: usize, limit: u32, count: &mut usize, units: &mut u32,
+    ) -> u32;
     pub fn rummyteak_between_lengths(
         p: In, n: usize, tol: f64, l0: f64, l1: f64, o: Out, m: usize, count: &mut usize, is_closed: &mut bool, given: &mut usize,
     ) -> u32;

@@ -212,6 +212,20 @@ fn extraction(input: &SectionInput, line: &Line2) -> Result<Wanted> {
     Ok(Wanted::run(list.take_vec(), units(2), vec![]))
 }
 
+// 02 (k)'s steps of a thinning over the published trial, from the front: the circles that are kept, with the lengths along that they had.
+fn thinning(input: &SectionInput, store: &[f64], count: usize) -> Wanted {
+    let list = circles_of(store, count);
+    let mut kept: Vec<usize> = (0..count.min(1)).collect();
+    for k in 1..count.max(1) {
+        if k == count - 1 || input.inscribed_refined(&list[*kept.last().unwrap()], &list[k + 1]).is_some() {
+            kept.push(k);
+        }
+    }
+    let lengths = kept.iter().map(|k| [store[WIDTH * k + PUBLISHED], store[WIDTH * k + PUBLISHED + 1]]).collect();
+    let circles: Vec<Inscribed> = kept.iter().map(|k| list[*k].clone()).collect();
+    Wanted { lengths, ..Wanted::run(circles, units(0), vec![]) }
+}
+
 // The edges of the hits that `crossing_line` counts and drops.
 fn with_edges(want: Wanted, input: &SectionInput, line: &Line2) -> Wanted {
     let hits = input.section.intersections_with_line(line);
@@ -266,6 +280,7 @@ fn wanted(call: Call, section: &[f64], args: &[f64], store: &[f64]) -> Wanted {
         }
         Call::March | Call::MarchCell => made_on(&curve, crossed(or_number(march(&input, &line_at(&args[2..]))))),
         Call::Extract => made_on(&curve, or_number(extraction(&input, &line_at(&args[2..])))),
+        Call::Thin(count) => thinning(&input, store, count),
         Call::FitOpenEdge(count, front) => or_number(
             fit_open_edge(&input, circles_of(store, count), front).map(|fit| Wanted::run(fit.circles, units(0), point(fit.edge.point))),
         ),
@@ -376,7 +391,7 @@ fn difference(call: Call, got: &port::Answer, want: &Wanted, store: &[f64]) -> O
     }
     let is_run = matches!(
         call,
-        Call::RefineAndPush(_) | Call::RefineAndPushCell(_) | Call::March | Call::MarchCell | Call::Extract | Call::FitOpenEdge(..)
+        Call::RefineAndPush(_) | Call::RefineAndPushCell(_) | Call::March | Call::MarchCell | Call::Extract | Call::Thin(_) | Call::FitOpenEdge(..)
     );
     if want.number != 0 && want.circles.is_none() {
         // A refusal after the entry leaves accepted circles behind in a run; the Rust gives none to compare with.
@@ -397,6 +412,10 @@ fn difference(call: Call, got: &port::Answer, want: &Wanted, store: &[f64]) -> O
         let numbers: Vec<f64> = circles.iter().flat_map(circle_numbers).collect();
         let used = with_lengths(&numbers, &want.lengths, &got.store);
         after[..used.len()].copy_from_slice(&used);
+        // the slots that a thinning frees become zero
+        if let Call::Thin(count) = call {
+            after[used.len()..WIDTH * count].fill(0.0);
+        }
     }
     if same(&got.store, &after) { None } else { Some("store differs".into()) }
 }

@@ -415,6 +415,115 @@ static void cell_marches(void)
     release(r), release(s), release(none), release(store);
 }
 
+/* A store of 300 slots with these circles in front and NaNs behind. */
+static double *store_of(const double *circles, size_t count)
+{
+    double *store = rank_of(0);
+    memcpy(store, circles, count * W * sizeof *store);
+    return store;
+}
+
+/* Whether a thinning of `stated` circles left those of the named places, then zeros, and NaNs behind the stated count. */
+static bool thinned(const double *store, const double *old, size_t stated, const size_t *places, size_t kept)
+{
+    bool right = are_nans(store, W * stated, W * 300);
+    for (size_t k = 0; k < kept; k++)
+        right = right && same(store + W * k, old + W * places[k], W);
+    for (size_t i = W * kept; i < W * stated; i++)
+        right = right && bits(store[i]) == 0;
+    return right;
+}
+
+/* What is refused on entry leaves all as it was: in this order 1, 2, 3, 23, 4, 6. */
+static void thinnings_refused(void)
+{
+    const double far_off[] = {6, -5, 4, 1, -8, 3, 4, -4, 6, -5}, far_circle[W] = {6e28, 0, 1, 0, 0, 2, 0, 20, 8};
+    double *r = copy(R, RLEN), *far_section = copy(far_off, RLEN), *store = rank_of(4), *old = rank_of(4), *big = marked(W * 1025);
+    size_t count = 77;
+    uint32_t units = 77;
+    EXPECT(rummyteak_thin(r, RLEN - 1, T, G, store, W * 300, 301, 9, &count, &units) == 1);
+    EXPECT(rummyteak_thin(NULL, 0, T, G, store, W * 300, 301, 9, &count, &units) == 1);
+    EXPECT(rummyteak_thin(r, RLEN, T, NAN, store, W * 300, 5, 9, &count, &units) == 2);
+    EXPECT(rummyteak_thin(r, RLEN, T, NAN, store, W * 4, 5, 9, &count, &units) == 3);
+    EXPECT(rummyteak_thin(r, RLEN, -1, G, store, W * 4, 5, 9, &count, &units) == 3);
+    EXPECT(rummyteak_thin(r, RLEN, G, T, store, W * 4, 5, 9, &count, &units) == 23);
+    EXPECT(rummyteak_thin(r, RLEN, 2, 2, store, W * 4, 5, 9, &count, &units) == 4);
+    EXPECT(rummyteak_thin(r, RLEN, T, G, store, W * 5 - 1, 5, 9, &count, &units) == 4);
+    EXPECT(rummyteak_thin(r, RLEN, T, G, store, W * 4, SIZE_MAX, 9, &count, &units) == 4);
+    EXPECT(rummyteak_thin(r, RLEN, T, G, NULL, 0, 1, 9, &count, &units) == 4);
+    EXPECT(rummyteak_thin(r, RLEN, 2, 2, store, W * 300, 4, 9, &count, &units) == 6);
+    for (size_t k = 0; k < 1024; k++)
+        upright(1 + (double)k / 256, big + W * k);
+    fill_with_nans(big, W * 1024, W * 1025);
+    EXPECT(rummyteak_thin(r, RLEN, T, G, big, W * 1025, 1025, 9, &count, &units) == 4);
+    EXPECT(count == 77 && units == 77 && same(store, old, W * 4) && are_nans(store, W * 4, W * 300));
+    EXPECT(rummyteak_thin(r, RLEN, T, G, big, W * 1025, 1024, 1022, &count, &units) == 0 && units == 1022 && are_nans(big, W * 1024, W * 1025));
+    /* refused in a trial: the whole store is as it was, what was decided before too */
+    for (int k = 0; k < 3; k++) {
+        double wide = k == 2 ? 1.7e308 : 0, last[W] = {4, 1, 1, 0, -wide, 0, wide, 4, 14};
+        memcpy(k ? store + 3 * W : store, k ? last : far_circle, sizeof last);
+        for (int i = 1; i < 4 && !k; i++)
+            memcpy(store + W * i, far_circle, sizeof far_circle);
+        memcpy(old, store, W * 4 * sizeof *old);
+        uint32_t taken = k ? 2 : 1;
+        const double *section = k ? r : far_section;
+        EXPECT(rummyteak_thin(section, RLEN, T, G, store, W * 300, 4, 9, &count, &units) == (uint32_t)(10 + k) && count == 4 && units == taken);
+        EXPECT(same(store, old, W * 4) && are_nans(store, W * 4, W * 300));
+        EXPECT(rummyteak_thin(section, RLEN, T, G, store, W * 300, 4, taken - 1, &count, &units) == 14 && count == 4 && units == taken - 1);
+        EXPECT(same(store, old, W * 4) && are_nans(store, W * 4, W * 300));
+        for (int i = 0; i < 3; i++)
+            upright(1 + (double)i / 256, store + W * i);
+    }
+    release(r), release(far_section), release(store), release(old), release(big);
+}
+
+/* A march on R has 52 circles, of which a thinning keeps those of places 0, 24 and 51; a list that is made up keeps 0, 2 and 5. */
+static void thinnings(void)
+{
+    static const size_t marched[] = {0, 24, 51}, made[] = {0, 2, 5};
+    /* of (4, 1) with radius 0.5 the halfway circle is not between its neighbours' */
+    const double list[6 * W] = {1, 1, 1, 1, 0, 1, 2, 1, 17, 2, 1, 1, 2, 0, 2, 2, 2, 16, 3, 1, 1, 3, 0, 3, 2, -0.0, 15,
+                                4, 1, 0.5, 4, 0, 4, 2, 4, 14, 5, 1, 1, 5, 0, 5, 2, 5, 13, 6, 1, 1, 6, 0, 6, 2, 6, 12};
+    double *r = copy(R, RLEN), *old = rank_of(0), *circle = marked(W);
+    size_t count = 77, edges[2];
+    uint32_t units = 77;
+    bool found, added;
+    EXPECT(rummyteak_march(r, RLEN, T, G, 4, 1, 0, 1, old, W * 300, RUMMYTEAK_NO_LIMIT, &count, &units, edges, &found) == 0 && count == 52);
+    for (int k = 0; k < 2; k++) {
+        size_t stated = k ? 6 : 52;
+        const double *from = k ? list : old;
+        for (uint32_t limit = 0; limit <= stated + 1; limit++) {
+            double *store = store_of(from, stated);
+            uint32_t number = rummyteak_thin(r, RLEN, T, G, store, W * 300, stated, limit, &count, &units);
+            if (limit < stated - 2) {
+                EXPECT(number == 14 && count == stated && units == limit && same(store, from, W * stated) && are_nans(store, W * stated, W * 300));
+            } else {
+                EXPECT(number == 0 && count == 3 && units == stated - 2 && thinned(store, from, stated, k ? made : marched, 3));
+            }
+            release(store);
+        }
+    }
+    /* the pairs that are left add none, the march's pairs having added none; a later refinement writes into the first free slot */
+    double *store = store_of(old, 52);
+    EXPECT(rummyteak_thin(r, RLEN, T, G, store, W * 300, 52, RUMMYTEAK_NO_LIMIT, &count, &units) == 0 && count == 3);
+    for (size_t k = 0; k < 51; k++)
+        EXPECT(rummyteak_inscribed_refined(r, RLEN, T, G, old + W * k, old + W * (k + 1), circle, &added) == 0 && !added);
+    for (size_t k = 0; k < 2; k++)
+        EXPECT(rummyteak_inscribed_refined(r, RLEN, T, G, store + W * k, store + W * (k + 1), circle, &added) == 0 && !added);
+    EXPECT(rummyteak_refine_and_push(r, RLEN, T, G, store, W * 300, 3, old + W * 51, 9, &count, &units) == 0 && count == 4 && units == 1);
+    EXPECT(same(store + W * 3, old + W * 51, W) && bits(store[W * 4]) == 0 && are_nans(store, W * 52, W * 300));
+    release(store);
+    /* with fewer than three circles there is no trial, and nothing changes; without a store there are none */
+    for (size_t stated = 0; stated < 3; stated++) {
+        store = store_of(list, 6);
+        EXPECT(rummyteak_thin(r, RLEN, T, G, store, W * 300, stated, 0, &count, &units) == 0 && count == stated && units == 0);
+        EXPECT(same(store, list, W * 6) && are_nans(store, W * 6, W * 300));
+        release(store);
+    }
+    EXPECT(rummyteak_thin(r, RLEN, T, G, NULL, 0, 0, 0, &count, &units) == 0 && count == 0 && units == 0);
+    release(r), release(old), release(circle);
+}
+
 static void lists(void)
 {
     double *store = copy(PAIR, 2 * W), *front = marked(W), *back = marked(W), *line = marked(4), x = MARK;
@@ -788,6 +897,8 @@ int main(void)
     runs();
     cell_refinements();
     cell_marches();
+    thinnings();
+    thinnings_refused();
     lists();
     curves();
     orientation();

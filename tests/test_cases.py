@@ -38,6 +38,7 @@ IN_C = {
     "inscribed_from_crossing": "S t g l C", "try_inscribed": "S t g l C E", "inscribed_refined": "S t g a b C B",
     "refine_and_push": "S t g K n a u N U", "march": "S t g l K u N U E F", "extract_circles": "S t g l K u N U",
     "refine_and_push_cell": "S t g K n a u N U", "march_cell": "S t g l K u N U E F",
+    "thin": "S t g K n u N U",
     "front_and_back": "K n C C", "index_of_tmax": "K n N", "average_spacing": "K n 1", "end_clip_line": "K n 4",
     "reverse_points": "K n", "reverse_order_only": "K n", "reverse_order": "K n", "circles_from": "K n y N N",
     "camber_curve": "K n t R N B", "make_camber_curve": "l K n t R N B",
@@ -54,6 +55,7 @@ IN_PYTHON = {
     "inscribed_from_crossing": "S t g L", "try_inscribed": "S t g L", "inscribed_refined": "S t g a b",
     "refine_and_push": "S t g k a u s", "march": "S t g L u s", "extract_circles": "S t g L u s",
     "refine_and_push_cell": "S t g k a u s c", "march_cell": "S t g L u s c",
+    "thin": "S t g k u",
     "front_and_back": "k", "index_of_tmax": "k", "average_spacing": "k", "end_clip_line": "k",
     "reverse_points": "k", "reverse_order_only": "k", "reverse_order": "k", "circles_from": "k y",
     "camber_curve": "k t", "make_camber_curve": "P k t",
@@ -124,7 +126,9 @@ class Table:
         assert bits(numbers) == bits(written), f"{wrong}: other numbers"
         if circles is not None:
             self_bits = bytes(self.store)
-            assert bits(circles) == bits(self.store[: len(circles)]) and self_bits[8 * len(circles) :] == before[8 * len(circles) :], f"{wrong}: other circles"
+            freed = 8 * rt.WIDTH * place if name == "thin" else 8 * len(circles)
+            assert bits(circles) == bits(self.store[: len(circles)]) and self_bits[freed:] == before[freed:], f"{wrong}: other circles"
+            assert not any(self_bits[8 * len(circles) : freed]), f"{wrong}: a slot that is freed is no zero"
 
     def ask_in_c(self, name: str, place: int, yes: int, limit: int):
         """Calls the function, puts what it writes into output and store, and returns the numbers that it answered."""
@@ -251,7 +255,7 @@ class Table:
         self.ask(name, place, yes, limit)
         return list(self.told), bytes(self.out), bytes(self.store)
 
-    def do_limits(self, words, is_fit=False):
+    def do_limits(self, words, spent="first circles"):
         self.do_keep()
         name, place, yes = words[2], whole(words, 3), whole(words, 4)
         plain = self.run(name, place, yes, rt.NO_LIMIT)
@@ -262,11 +266,19 @@ class Table:
                     return False
                 continue
             used = 8 * rt.WIDTH * told[1]
-            if told[0] != 14 or told[2] != limit or told[3:] != plain[0][3:] or not (is_fit or store == plain[2][:used] + self.kept[1][used:]):
+            left = {
+                "first circles": lambda: store == plain[2][:used] + self.kept[1][used:],
+                "anything": lambda: True,
+                "as before": lambda: told[1] == place and (out, store) == self.kept,
+            }
+            if told[0] != 14 or told[2] != limit or told[3:] != plain[0][3:] or not left[spent]():
                 return False
 
     def do_fits(self, words):
-        return self.do_limits(words, True)
+        return self.do_limits(words, "anything")
+
+    def do_thins(self, words):
+        return self.do_limits(words, "as before")
 
     def do_slots(self, words):
         self.do_keep()
@@ -349,7 +361,7 @@ class Cases(unittest.TestCase):
             if words[0] == "case":
                 case, passed = text, False
                 continue
-            questions = {"ask": words[1:2], "bad": words[4:5], "limits": words[2:3], "fits": words[2:3], "agree": words[2:4], "slots": words[2:5:2]}.get(words[0], [])
+            questions = {"ask": words[1:2], "bad": words[4:5], "limits": words[2:3], "fits": words[2:3], "thins": words[2:3], "agree": words[2:4], "slots": words[2:5:2]}.get(words[0], [])
             if questions or words[0] in LEFT_OUT:
                 passed = bool(LEFT_OUT.intersection([words[0], *questions]))
             if passed and words[0] not in ("section", "row", "args", "store", "room", "rank", "copies"):

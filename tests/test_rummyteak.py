@@ -32,10 +32,10 @@ sys.path.insert(0, str(ROOT / "python"))
 
 import rummyteak as rt  # noqa: E402
 from rummyteak._library import call  # noqa: E402
-from rummyteak.blade import Options  # noqa: E402
+from rummyteak.blade import Options, _Steps  # noqa: E402
 from rummyteak.files import Reading, Unreadable, read  # noqa: E402
 from rummyteak.outputs import put  # noqa: E402
-from rummyteak.report import ADVICE  # noqa: E402
+from rummyteak.report import ADVICE, table  # noqa: E402
 
 R = [0, 0, 8, 0, 8, 2, 0, 2, 0, 0]
 U = R[:8]
@@ -348,6 +348,51 @@ class Rows(unittest.TestCase):
         self.assertEqual((count.value, units.value, found.value, list(edges)), (256, 512, True, [0, 2]))
         self.assertEqual(behind(store), behind(store_of(0)))
 
+    # Six circles on R. Of the halfway circles between neighbours only those beside the fourth, whose radius is 0.5, are not as good as between them.
+    MADE = tuple(rt.Inscribed(x, 1, 0.5 if x == 4 else 1, x, 0, x, 2, x, 18 - x) for x in range(1, 7))
+    # Marches with the section, general tolerance and line, how many circles they leave, and the places of those that a thinning keeps.
+    THINNED = (
+        (R, G, (4, 1, 0, 1), 52, (0, 24, 51)),
+        ([-4, -1, 0, -1, 1, 3, -4, -1], 0.1, (2, -2, 1, -1), 14, (0, 6, 13)),
+        ([0, -3, 3, 1, -2, 1, 0, -3], 0.1, (2, -2, 2, -2), 11, (0, 1, 10)),
+    )
+
+    def test_thinning(self):
+        """Which circles are kept, at every limit; a thinning that is spent has all of them."""
+        for section, tol, line, found, kept in self.THINNED:
+            circles = rt.march(section, T, tol, line).circles
+            self.assertEqual(len(circles), found)
+            for limit in [*range(found + 1), rt.NO_LIMIT]:
+                run = rt.thin(section, T, tol, circles, limit)
+                want = (14, circles, limit) if limit < found - 2 else (0, tuple(circles[k] for k in kept), found - 2)
+                self.assertEqual((run.number, [list(map(bits, c)) for c in run.circles], run.units), (want[0], [list(map(bits, c)) for c in want[1]], want[2]))
+            for pairs in (circles, run.circles):
+                self.assertEqual([rt.inscribed_refined(section, T, tol, a, b) for a, b in zip(pairs, pairs[1:])], [None] * (len(pairs) - 1))
+        run = rt.thin(R, T, G, self.MADE)
+        self.assertEqual((run.number, run.circles, run.units), (0, tuple(self.MADE[k] for k in (0, 2, 5)), 4))
+        signed = (self.MADE[0], self.MADE[1], self.MADE[2]._replace(l0=-0.0))
+        self.assertEqual([bits(c.l0) for c in rt.thin(R, T, G, signed).circles], [bits(1.0), bits(-0.0)])
+        for few in ((), self.MADE[:1], self.MADE[:2]):
+            self.assertEqual(rt.thin(R, T, G, few, 0), rt.Run(0, few, 0))
+        more = rt.refine_and_push(R, T, G, run.circles, self.MADE[5], slots=6)
+        self.assertEqual((more.number, more.circles, more.units), (0, run.circles + self.MADE[5:], 1), "a later refinement has the slots")
+
+    def test_thinning_refused(self):
+        nan, made = float("nan"), self.MADE
+        flat = made[0]._replace(p0x=1, p0y=0, p1x=1, p1y=0)
+        wide = made[0]._replace(p0y=-1.7e308, p1y=1.7e308)
+        far_off, far = [6, -5, 4, 1, -8, 3, 4, -4, 6, -5], rt.Inscribed(6e28, 0, 1, 0, 0, 2, 0, 20, 8)
+        for number, section, circles, units in ((10, far_off, (far, far, far), 1), (11, R, made[:3] + (flat,), 2), (12, R, made[:3] + (wide,), 2), (11, R, (flat,) + made, 1)):
+            self.assertEqual(rt.thin(section, T, G, circles), rt.Run(number, circles, units), "all circles as they were")
+            self.assertEqual(rt.thin(section, T, G, circles, units - 1), rt.Run(14, circles, units - 1))
+        bad = made[:1] + (made[1]._replace(l1=-1),)
+        for number, section, section_tol, tol, circles in (
+            (1, R[:3], T, G, made), (2, R, T, G, bad), (2, R, T, nan, bad), (2, [*R[:8], 0, 1e7], T, G, made), (3, R, T, nan, made), (3, R, nan, G, made), (23, R, G, T, made),
+            (23, R, G, T, made[:1] * 1025), (4, R, T, G, made[:1] * 1025), (4, R, 2, 2, made[:1] * 1025), (4, R, T, G, made[:1] * 1024 + bad[1:]), (6, R, 2, 2, made),
+        ):
+            self.refused(number, rt.thin, section, section_tol, tol, circles)
+        self.assertEqual(rt.thin(R, T, G, made[:1] * 1024).circles, made[:1] * 2)
+
 
 class Types(unittest.TestCase):
     """What goes in: anything that holds numbers, and a clear word about what doesn't."""
@@ -407,6 +452,8 @@ class Types(unittest.TestCase):
             (ValueError, rt.march, R, T, G, (4, 1, 0, 1), 5, -1, True),
             (TypeError, rt.refine_and_push, R, T, G, PAIR[:1], PAIR[1], 5, 2.0, True),
             (ValueError, rt.index_of_tmax, [(4, 1, 1)]),
+            (ValueError, rt.thin, R, T, G, [(4, 1, 1)]),
+            (ValueError, rt.thin, R, T, G, PAIR, -1),
             (ValueError, rt.make_camber_curve, (0, 1, 2), (8, 1), PAIR, T),
             (TypeError, rt.shuffle, [0] * 8),
             (ValueError, rt.transpose_words, [0] * 7),
@@ -657,6 +704,7 @@ class Header(unittest.TestCase):
 
 
 class Command(unittest.TestCase):
+    made = Rows.MADE
     TEXT = "title\n" + "".join(f"{x}, {y}\n" for x, y in zip(R[::2], R[1::2]))
 
     def run_command(self, *args, given=None):
@@ -977,6 +1025,51 @@ class Command(unittest.TestCase):
         self.assertLess(other["circles"][-1][0], 4, "a line turned round marches to the other side")
         opened = json.loads(self.run_command("examples/open.dat", "--march", "--cell", "--end", "none", "--json", "-").stdout)
         self.assertEqual((opened["closed"], opened["edge"], opened["number"]), (False, None, 0))
+
+    def test_thinned(self):
+        """Circles thinned behind all other runs: what is handed on are the kept ones, and what was dropped is told."""
+        line = ("--line", "4", "1", "0", "1")
+        circles = [list(c) for c in rt.march(R, T, G, (4, 1, 0, 1)).circles]
+        kept = [circles[k] for k in (0, 24, 51)]
+        with tempfile.TemporaryDirectory() as folder:
+            names = [str(Path(folder) / n) for n in ("a.csv", "a.bin", "a.json", "a.svg")]
+            for cell in (), ("--cell",):
+                done = self.run_command("-", *line, "--march", *cell, "--thin-circles", "--csv", names[0], "--record", names[1], "--json", names[2], "--svg", names[3], given=self.TEXT)
+                self.assertEqual(done.returncode, 0)
+                self.assertRegex(done.stdout, r"(?m)^circles +52, 102 units\nthinned +3 of 52 kept, 50 units; of all: greatest thickness 1\.999\d+, camber length 4\.301\d+\n")
+                self.assertEqual([list(map(float, row.split(","))) for row in Path(names[0]).read_text().splitlines()[1:]], kept)
+                self.assertEqual([list(c) for c in rt.read_record(Path(names[1]).read_bytes())], kept)
+                told = json.loads(Path(names[2]).read_text())
+                self.assertEqual((told["circles"], told["dropped"], told["units"], told["thin_units"]), (kept, [c for c in circles if c not in kept], 102, 50))
+                self.assertEqual((told["options"]["thin_circles"], told["camber"]), (True, list(rt.camber_curve(kept, T).numbers)))
+                self.assertEqual(told["camber_length_of_all"], rt.length(rt.camber_curve(circles, T), T))
+                self.assertEqual(told["thickness_of_all"], 2 * circles[rt.index_of_tmax(circles)][2])
+                drawn = Path(names[3]).read_text()
+                titles = [t.text for t in ElementTree.fromstring(drawn).iter("{http://www.w3.org/2000/svg}title")]
+                for c in told["dropped"]:
+                    self.assertIn("dropped: " + ", ".join(f"{n} {x!r}" for n, x in zip(told["circle"], c)), titles)
+                for words in ("3 inscribed circles of 52, kept by thinning, 102 units, one march" + (", cell" if cell else ""), "those that thinning dropped, 50 units"):
+                    self.assertIn(words, drawn)
+        plain = json.loads(self.run_command("examples/open.dat", "--json", "-").stdout)
+        self.assertEqual([plain[k] for k in ("dropped", "thin_units", "thickness_of_all", "camber_length_of_all")], [None] * 4)
+        told = json.loads(self.run_command("examples/open.dat", "--thin-circles", "--json", "-").stdout)
+        # all that comes before is as it is without thinning, and the list is thinned as it stands then
+        self.assertEqual([told[k] for k in ("turned", "swapped", "edge", "edge_at", "units", "crossing")], [plain[k] for k in ("turned", "swapped", "edge", "edge_at", "units", "crossing")])
+        section = rt.from_points(read(str(ROOT / "examples" / "open.dat")), T)
+        run = rt.thin(section, T, G, [rt.Inscribed(*c) for c in plain["circles"]])
+        self.assertEqual((told["circles"], told["thin_units"], len(told["dropped"])), ([list(c) for c in run.circles], run.units, len(plain["circles"]) - len(run.circles)))
+        self.assertEqual((told["camber_length_of_all"], told["number"]), (plain["camber_length"], 0))
+        self.assertEqual((told["circles"][0], told["circles"][-1]), (plain["circles"][0], plain["circles"][-1]))
+        several = self.run_command("examples/thick.dat", "examples/open.dat", "--thin-circles")
+        self.assertEqual([re.search(r"\d+ kept by thinning in \d+ units", line).group() for line in several.stdout.splitlines()], ["23 kept by thinning in 167 units", "19 kept by thinning in 154 units"])
+        # a run that is refused or spent is not thinned; a thinning that is spent leaves all circles
+        spent = json.loads(self.run_command("examples/open.dat", "--thin-circles", "--limit", "100", "--json", "-").stdout)
+        self.assertEqual((spent["number"], spent["step"], spent["dropped"], spent["thin_units"]), (14, "circles", None, None))
+        steps = _Steps(R, Options(thin_circles=True, limit=3))
+        steps.blade.curve, steps.blade.circles = rt.from_points(R, T), self.made
+        steps.take(steps.thinning)
+        self.assertEqual((steps.blade.number, steps.blade.step, steps.blade.circles, steps.blade.dropped, steps.blade.thin_units), (14, "thinning", self.made, None, 3))
+        self.assertRegex(table("x", steps.blade), r"(?m)^thinned +not finished, all 6 kept, 3 units$")
 
     def test_cell(self):
         """15 says what to do; a spent march keeps its circles, and so does a record of them."""

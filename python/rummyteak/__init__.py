@@ -1,7 +1,7 @@
 """Rummyteak: a measured blade section into inscribed circles, a camber line and an open-edge point.
 
 Each function calls the proved library. What it refuses is an exception, Refused, with the number and its words. A run (refine_and_push, march,
-extract_circles, fit_open_edge) that began returns its circles whichever way it ended.
+extract_circles, fit_open_edge, thin) that began returns its circles whichever way it ended.
 
 Points, and a section, may be a list of pairs, a flat list of numbers, a Curve2, or anything with the buffer protocol, flat or of pairs. A buffer of
 contiguous float64 numbers (an array.array('d'), a numpy array) is read where it stands, and copied only where it is read-only; another one is converted.
@@ -27,7 +27,7 @@ __all__ = [
     "Refused", "Curve2", "Piece", "CurveStation2", "Line2", "Crossing", "Inscribed", "CircleOnLine", "Run", "March", "Fit", "CELL_SLOTS", "NO_LIMIT", "SLOTS", "WIDTH", "WORDS",
     "sqrt", "from_points", "reversed", "is_closed", "length", "at_front", "at_back", "at_vertex", "at_length", "at_closest_to_point",
     "length_along", "between_lengths", "split_open_at_length", "split_closed_at_lengths", "crossing_line", "joined_crossing", "inscribed_from_crossing", "try_inscribed", "inscribed_refined",
-    "refine_and_push", "march", "extract_circles", "front_and_back", "index_of_tmax", "average_spacing", "end_clip_line",
+    "refine_and_push", "march", "extract_circles", "thin", "front_and_back", "index_of_tmax", "average_spacing", "end_clip_line",
     "reverse_points", "reverse_order_only", "reverse_order", "circles_from", "camber_curve", "make_camber_curve",
     "orient_tmax_fwd", "orient_airflow", "orient_fwd", "orient_curvature", "orient_upper", "orient_lower", "is_open_at_end", "fit_open_edge",
     "write_record", "read_record", "shuffle", "unshuffle", "transpose_words",
@@ -142,7 +142,8 @@ WIDTH = len(Inscribed._fields)
 
 @dataclass(frozen=True)
 class Run:
-    """A run that began: how it ended (0 finished, 14 spent, else refused), its circles, and the units it took."""
+    """A run that began: how it ended (0 finished, 14 spent, else refused), its circles, and the units it took. Those of a thinning are the kept ones where it
+    finished, else all."""
 
     number: int
     circles: Tuple[Inscribed, ...]
@@ -497,6 +498,23 @@ def extract_circles(section: Points, section_tol: float, tol: float, line: Line,
     p = _numbers(section)
     store = _stored((), slots)
     return _run("extract_circles", store, p, len(p), section_tol, tol, *_line(line), store, len(store), limit)
+
+
+def thin(section: Points, section_tol: float, tol: float, circles: Circles, limit: int = NO_LIMIT) -> Run:
+    """The circles of a finished march thinned, with the section and the tolerances of the march.
+
+    It goes from the front: a circle between the first and the last is dropped where `inscribed_refined` of the last kept circle before it and the circle
+    behind it is None, else it is kept; the first and the last are kept. Each such trial is one unit, so that a thinning that finishes takes as many units as
+    there are circles between the first and the last. The run then has the kept circles, in their order and as they were. Where it is spent (14), or refused
+    in a trial (10, 11, 12), it has all circles as they were. If no neighbouring pair would be refined before, none would be after. Circles that were thinned
+    may become fewer still by a second thinning.
+
+    A list of more than SLOTS circles is refused with 4. In the store that the library works on, the slots that are freed become zero. A list of circles has
+    no slots, so nothing of that is to be seen here: what was dropped is what `circles` has and the run has not. A list that was thinned is handed to
+    `refine_and_push` as any other, and the slots of its store behind the kept circles are free."""
+    p = _numbers(section)
+    store = _stored(circles)
+    return _run("thin", store, p, len(p), section_tol, tol, store, len(store), len(circles), limit)
 
 
 # ---- a list of circles

@@ -76,10 +76,11 @@ def parser() -> argparse.ArgumentParser:
     side.add_argument("--upper", type=float, nargs=2, metavar=("X", "Y"), help="a vector to the upper side")
     side.add_argument("--lower", type=float, nargs=2, metavar=("X", "Y"), help="a vector to the lower side")
     words.add_argument("--end", choices=("auto", "front", "back", "none"), default=default.end, help="which end's open edge is fitted (%(default)s)")
-    words.add_argument("--limit", type=_whole(NO_LIMIT), default=default.limit, help="units at most in each run: the circles, and the open edge (no limit)")
+    words.add_argument("--limit", type=_whole(NO_LIMIT), default=default.limit, help="units at most in each run: the circles, the open edge, and thinning (no limit)")
     words.add_argument("--slots", type=_whole(SLOTS), help=f"circles at most, up to {SLOTS}, with --cell up to {CELL_SLOTS} (as many as that)")
     words.add_argument("--march", action="store_true", help="one march: only the circles to the right of the reference line as it points, as they were marched, with no orientation and no open edge")
     words.add_argument("--cell", action="store_true", help=f"with --march: by the entry for the cell, whose store holds {CELL_SLOTS} circles")
+    words.add_argument("--thin-circles", action="store_true", help="thin the circles, behind all other runs: from the front, drop each one between the first and the last where the trial between the last kept one and the one behind adds none")
     words.add_argument("--points", metavar="FILE", help="write the points of the section, cleaned and cut, as x y lines; - is standard output")
     words.add_argument("--csv", metavar="FILE", help="write the circles as CSV; - is standard output")
     words.add_argument("--record", metavar="FILE", help="write the circles as a hand-over record, which is bytes: to a file, not to standard output")
@@ -101,7 +102,7 @@ def options_of(args: argparse.Namespace) -> Options:
         parser().error(f"argument --slots: {slots} is not within 0 to {most}, which is what the entry for the cell holds")
     try:
         return Options(
-            args.section_tol, args.tol, args.force_closed, pair(args.between), line, pair(args.fwd), pair(args.airflow), args.curvature, pair(args.upper), pair(args.lower), args.end, args.limit, slots, args.march, args.cell
+            args.section_tol, args.tol, args.force_closed, pair(args.between), line, pair(args.fwd), pair(args.airflow), args.curvature, pair(args.upper), pair(args.lower), args.end, args.limit, slots, args.march, args.cell, args.thin_circles
         )
     except ValueError as error:
         return parser().error(str(error))

@@ -91,6 +91,7 @@ _arguments = {
     "march": [*_slice, d, d, *_line, *_slice, u, N, U, N, B],
     "march_cell": [*_slice, d, d, *_line, *_slice, u, N, U, N, B],
     "extract_circles": [*_slice, d, d, *_line, *_slice, u, N, U],
+    "thin": [*_slice, d, d, *_slice, n, u, N, U],
     "front_and_back": [*_slice, n, P, P],
     "index_of_tmax": [*_slice, n, N],
     "average_spacing": [*_slice, n, P],

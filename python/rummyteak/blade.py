@@ -1,4 +1,4 @@
-"""One section through all steps: cleaned, cut where a stretch of it is wanted, its circles found, oriented, its open edge fitted, its camber line drawn.
+"""One section through all steps: cleaned, cut where a stretch of it is wanted, its circles found, oriented, its open edge fitted, its circles thinned where that is wanted, its camber line drawn.
 Where one march is wanted, its circles lie on one side of the reference line and stay as the march left them: no orientation, no open edge.
 
 No rule stands here but which call follows which, and where the reference line is without one: across the middle of the longest chord."""
@@ -6,6 +6,8 @@ No rule stands here but which call follows which, and where the reference line i
 from __future__ import annotations
 
 import math
+from array import array
+from contextlib import suppress
 from dataclasses import dataclass
 from typing import Any, List, Optional, Sequence, Tuple
 
@@ -18,7 +20,8 @@ Pair = Tuple[float, float]
 class Options:
     """Every argument of the calls. Without a line it is across the middle of the longest chord; without `fwd` and `airflow` the greatest radius orients;
     `end` is auto, front, back or none. With `march` the circles are those of one march, to the right of the line as it points, and with `cell` too of one
-    by the entry for the cell. What only an extraction has doesn't go with a march, nor `cell` without one: that is a ValueError."""
+    by the entry for the cell. What only an extraction has doesn't go with a march, nor `cell` without one: that is a ValueError. With `thin_circles` the
+    circles are thinned behind all other runs, in the order that they have then."""
 
     section_tol: float = 0.001
     tol: float = 0.01
@@ -35,6 +38,7 @@ class Options:
     slots: int = rt.SLOTS
     march: bool = False
     cell: bool = False
+    thin_circles: bool = False
 
     def __post_init__(self) -> None:
         if self.cell and not self.march:
@@ -51,7 +55,8 @@ class Options:
 @dataclass
 class Blade:
     """What came of a section. `number` is the first ending that isn't 0, and `step` the call that it came from; the steps behind it were not taken,
-    but what its circles give is drawn."""
+    but what its circles give is drawn. `circles` are the kept ones where they were thinned, and what is told of them is of these; `dropped` are the others,
+    in their order, and None where no thinning finished. `unthinned` are greatest thickness and camber length of the circles before they were thinned."""
 
     points: int = 0
     march: bool = False
@@ -64,6 +69,9 @@ class Blade:
     crossing: Optional[rt.Crossing] = None
     circles: Tuple[rt.Inscribed, ...] = ()
     units: int = 0
+    dropped: Optional[Tuple[rt.Inscribed, ...]] = None
+    thin_units: Optional[int] = None
+    unthinned: Optional[Pair] = None
     turned: Optional[bool] = None
     swapped: Optional[bool] = None
     edge: Optional[Pair] = None
@@ -78,6 +86,11 @@ class Blade:
     def run(self) -> str:
         """Which run gave the circles, in words; empty where it is an extraction."""
         return f"one march, to the right of the line as it points; {'the entry for the cell, ' if self.cell else ''}{self.slots} slots" if self.march else ""
+
+    @property
+    def found(self) -> int:
+        """How many circles there were before they were thinned."""
+        return len(self.circles) + len(self.dropped or ())
 
     @property
     def section(self) -> Optional[rt.Curve2]:
@@ -119,6 +132,20 @@ def middle_line(curve: rt.Curve2) -> rt.Line2:
             if far > best:
                 best, a, b = far, p, q
     return rt.Line2((a[0] + b[0]) / 2, (a[1] + b[1]) / 2, -(b[1] - a[1]), b[0] - a[0])
+
+
+def _without(circles: Sequence[rt.Inscribed], kept: Sequence[rt.Inscribed]) -> Tuple[rt.Inscribed, ...]:
+    """The circles that are not kept, in their order; those that are kept stand in theirs, and are told from others by their bits."""
+    def bits(c: rt.Inscribed) -> bytes:
+        return array("d", c).tobytes()
+
+    waiting, dropped = list(kept), []
+    for c in circles:
+        if waiting and bits(c) == bits(waiting[0]):
+            del waiting[0]
+        else:
+            dropped.append(c)
+    return tuple(dropped)
 
 
 class _Steps:
@@ -185,17 +212,35 @@ class _Steps:
         blade.units += fit.units
         return fit.number
 
+    def thinning(self) -> int:
+        blade, o = self.blade, self.options
+        if not o.thin_circles:
+            return 0
+        run = rt.thin(blade.section, o.section_tol, o.tol, blade.circles, o.limit)
+        blade.thin_units = run.units
+        if not run.number:
+            with suppress(rt.Refused):
+                thickest = blade.circles[rt.index_of_tmax(blade.circles)]
+                blade.unthinned = (2 * thickest.r, rt.length(self.drawn(), o.section_tol))
+            blade.dropped = _without(blade.circles, run.circles)
+            blade.circles = run.circles
+        return run.number
+
+    def drawn(self) -> rt.Curve2:
+        """The camber line of the circles, to the open-edge point where there is one."""
+        blade, o = self.blade, self.options
+        if blade.edge is None:
+            return rt.camber_curve(blade.circles, o.section_tol)
+        le, te = blade.circles[0].center, blade.circles[-1].center
+        ends = (blade.edge, te) if blade.edge_at == "front" else (le, blade.edge)
+        return rt.make_camber_curve(*ends, blade.circles, o.section_tol)
+
     def camber_line(self) -> int:
         blade, o = self.blade, self.options
         if not blade.circles:
             return 0
         blade.thickest = rt.index_of_tmax(blade.circles)
-        if blade.edge is None:
-            blade.camber = rt.camber_curve(blade.circles, o.section_tol)
-        else:
-            le, te = blade.circles[0].center, blade.circles[-1].center
-            ends = (blade.edge, te) if blade.edge_at == "front" else (le, blade.edge)
-            blade.camber = rt.make_camber_curve(*ends, blade.circles, o.section_tol)
+        blade.camber = self.drawn()
         blade.camber_length = rt.length(blade.camber, o.section_tol)
         return 0
 
@@ -212,7 +257,7 @@ def worked_out(points: Any, options: Options) -> Blade:
     """All that is to be had of a section; its points are whatever the module takes as points."""
     steps = _Steps(points, options)
     whole = () if options.march else (steps.orientation, steps.open_edge)
-    for step in (steps.cleaning, steps.stretch, steps.circles, *whole):
+    for step in (steps.cleaning, steps.stretch, steps.circles, *whole, steps.thinning):
         if not steps.blade.number:
             steps.take(step)
     steps.take(steps.camber_line)

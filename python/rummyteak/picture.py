@@ -16,6 +16,7 @@ DETAIL_WIDE, DETAIL_HIGH = 450.0, 230.0
 TEXT, ROW = 17.0, 27.0
 
 SECTION, REST, CIRCLE, TINT, THICKEST = "#222222", "#b5b5b5", "#4488bb", "#e4eff8", "#ee7733"
+DROPPED = "#c9d6e2"
 CAMBER, P0, P1, REFERENCE, EDGE, HIT = "#cc3311", "#009988", "#aa4499", "#888888", "#dd2277", "#ccaa00"
 GOOD, BAD = "#117733", "#bb1111"
 
@@ -51,8 +52,8 @@ def _text(x: float, y: float, words: str, colour: str = SECTION, size: float = T
     return f'<text x="{x:.1f}" y="{y:.1f}" font-size="{size:g}" fill="{colour}"{more}>{escape(words)}</text>'
 
 
-def _tooltip(k: int, c: Inscribed) -> str:
-    return f"<title>circle {k}: " + ", ".join(f"{name} {value!r}" for name, value in zip(c._fields, c)) + "</title>"
+def _tooltip(title: str, c: Inscribed) -> str:
+    return f"<title>{title}: " + ", ".join(f"{name} {value!r}" for name, value in zip(c._fields, c)) + "</title>"
 
 
 def _stopped(blade: Blade) -> Optional[int]:
@@ -75,11 +76,13 @@ def _drawing(blade: Blade, page: _Page, wide: float, high: float, bold: float) -
 
     shown = [(k, c) for k, c in enumerate(blade.circles) if seen(c)]
     out = [f'<path d="{"".join(page.disc(c) for _, c in shown)}" fill="{TINT}"/>'] if shown else []
+    for c in filter(seen, blade.dropped or ()):
+        out.append(f'<g class="c">{_tooltip("dropped", c)}<path d="{page.disc(c)}" {_stroke(DROPPED, 0.5 * bold)}/></g>')
     if blade.stretch is not None and blade.curve is not None:
         out.append(f'<path d="{page.path(blade.curve.points())}" {_stroke(REST, 1.3 * bold)} stroke-linejoin="round"/>')
     out.append(f'<path d="{page.path(points)}" {_stroke(SECTION, 1.3 * bold)} stroke-linejoin="round"/>')
     for k, c in shown:
-        out.append(f'<g class="c">{_tooltip(k, c)}<path d="{page.disc(c)}" {_stroke(CIRCLE, 0.6 * bold)}/>{_dot(page.at(c.p0), 1.5 * bold, P0)}{_dot(page.at(c.p1), 1.5 * bold, P1)}</g>')
+        out.append(f'<g class="c">{_tooltip(f"circle {k}", c)}<path d="{page.disc(c)}" {_stroke(CIRCLE, 0.6 * bold)}/>{_dot(page.at(c.p0), 1.5 * bold, P0)}{_dot(page.at(c.p1), 1.5 * bold, P1)}</g>')
     if blade.line is not None:
         d = blade.line
         far = math.hypot(d.dx, d.dy) or 1.0
@@ -97,7 +100,7 @@ def _drawing(blade: Blade, page: _Page, wide: float, high: float, bold: float) -
     for ringed, colour in ((blade.thickest, THICKEST), (stop, BAD)):
         if ringed is not None:
             c = blade.circles[ringed]
-            out.append(f'<g>{_tooltip(ringed, c)}<path d="{page.disc(c)}" {_stroke(colour, 2.2 * bold)}/></g>')
+            out.append(f'<g>{_tooltip(f"circle {ringed}", c)}<path d="{page.disc(c)}" {_stroke(colour, 2.2 * bold)}/></g>')
     if blade.camber is not None:
         out.append(f'<path d="{page.path(blade.camber.points())}" {_stroke(CAMBER, 1.6 * bold)}/>')
     if blade.edge is not None:
@@ -131,8 +134,11 @@ def _legend(blade: Blade) -> List[Tuple[str, str]]:
     if blade.crossing is not None:
         rows.append((f'<path d="M-16,0H16" {_stroke(HIT, 5)}/>', "the edges that it crosses, {} and {}".format(*blade.crossing.edges)))
     if blade.circles:
-        rows.append((ring(CIRCLE, 1.2), f"{len(blade.circles)} inscribed circles, {blade.units} units" + (", one march" if blade.march else "") + (", cell" if blade.cell else "")))
+        found = f" of {blade.found}, kept by thinning" if blade.dropped is not None else ""
+        rows.append((ring(CIRCLE, 1.2), f"{len(blade.circles)} inscribed circles{found}, {blade.units} units" + (", one march" if blade.march else "") + (", cell" if blade.cell else "")))
         rows.append((_dot((-7, 0), 3.5, P0) + _dot((7, 0), 3.5, P1), "their contacts, p0 and p1"))
+        if blade.dropped:
+            rows.append((ring(DROPPED, 1.2), f"those that thinning dropped, {blade.thin_units} units"))
     stop = _stopped(blade)
     if stop is not None:
         rows.append((ring(BAD, 2.6), f"it stopped here, at circle {stop}"))

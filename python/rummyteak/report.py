@@ -64,7 +64,11 @@ def table(name: str, blade: Blade) -> str:
         rows.append(("crosses", "edges {} and {}".format(*blade.crossing.edges)))
     if blade.march:
         rows.append(("run", blade.run))
-    rows.append(("circles", f"{len(blade.circles)}, {blade.units} units"))
+    rows.append(("circles", f"{blade.found}, {blade.units} units"))
+    if blade.thin_units is not None:
+        kept = f"{len(blade.circles)} of {blade.found} kept" if blade.dropped is not None else f"not finished, all {blade.found} kept"
+        more = "; of all: greatest thickness {:.6f}, camber length {:.6f}".format(*blade.unthinned) if blade.unthinned else ""
+        rows.append(("thinned", f"{kept}, {blade.thin_units} units{more}"))
     if blade.thickest is not None:
         c = blade.circles[blade.thickest]
         rows.append(("greatest thickness", f"{2 * c.r:.6f} at ({c.cx:.6f}, {c.cy:.6f}), circle {blade.thickest}"))
@@ -90,7 +94,8 @@ def line(name: str, blade: Blade) -> str:
     thick = f", thickness {2 * blade.circles[blade.thickest].r:.6f}" if blade.thickest is not None else ""
     long = f", camber length {blade.camber_length:.6f}" if blade.camber_length is not None else ""
     edge = f", edge ({blade.edge[0]:.6f}, {blade.edge[1]:.6f})" if blade.edge is not None else ""
-    return f"{name}: {len(blade.circles)} circles, {blade.units} units{thick}{long}{edge}; {blade.ending}\n"
+    thinned = f", {len(blade.circles)} kept by thinning in {blade.thin_units} units" if blade.dropped is not None else ""
+    return f"{name}: {blade.found} circles, {blade.units} units{thinned}{thick}{long}{edge}; {blade.ending}\n"
 
 
 def told(name: str, options: Options, reading: Reading = Reading()) -> Tuple[str, str, int]:
@@ -147,6 +152,10 @@ def as_json(name: str, blade: Blade, options: Options, reading: Reading) -> str:
         "circle": Inscribed._fields,
         "circles": blade.circles,
         "units": blade.units,
+        "dropped": blade.dropped,
+        "thin_units": blade.thin_units,
+        "thickness_of_all": blade.unthinned[0] if blade.unthinned else None,
+        "camber_length_of_all": blade.unthinned[1] if blade.unthinned else None,
         "turned": blade.turned,
         "swapped": blade.swapped,
         "thickest": blade.thickest,

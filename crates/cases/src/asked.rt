@@ -239,6 +239,11 @@ fn ask_run(q: &Question<'_>, store: &mut [f64], out: &mut [f64], told: &mut Told
             ask_refinement(q, store, &mut count, &mut units)
         }
         b"march" | b"march_cell" => ask_march(q, store, &mut count, &mut units, told),
+        b"thin" => {
+            run::rummyteak_thin(
+                q.section, t, g, store, q.place, q.limit, &mut count, &mut units,
+            )
+        }
         b"extract_circles" => run::rummyteak_extract_circles(
             q.section, t, g, x, y, dx, dy, store, q.limit, &mut count, &mut units,
         ),

@@ -3,6 +3,7 @@ use crate::case::{Case, SLOTS, limit_of};
 use crate::numbers::{are_same, copies, holds, numbers_from, rank, row, write};
 use crate::table::{count, is_blank, whole, word};
 use inscribed::store::WIDTH;
+use limits::Spent;
 
 mod limits;
 mod places;
@@ -64,8 +65,9 @@ pub(crate) fn is_right(line: &[u8], case: &mut Case) -> bool {
             return are_same(left, part(&case.kept.store, count(line, 2), len));
         }
         b"bad" => return places::are_bad(line, case),
-        b"limits" => return limits::keep(line, false, case),
-        b"fits" => return limits::keep(line, true, case),
+        b"limits" => return limits::keep(line, Spent::FirstCircles, case),
+        b"fits" => return limits::keep(line, Spent::Anything, case),
+        b"thins" => return limits::keep(line, Spent::AsBefore(count(line, 3)), case),
         b"agree" => return limits::agree(line, case),
         b"slots" => return limits::fill(line, case),
         b"sample" => return sums::sample(line),

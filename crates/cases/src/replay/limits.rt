@@ -12,6 +12,14 @@ struct Ran {
     told: Told,
 }
 
+// What a spent run leaves: the first circles of the plain run's, what nobody compares (an edge fit), or the store as it was, with its count (a thinning).
+#[derive(Clone, Copy)]
+pub(crate) enum Spent {
+    FirstCircles,
+    Anything,
+    AsBefore(usize),
+}
+
 // Runs what word k of the line names, from output and store as they were kept.
 fn run(line: &[u8], k: usize, limit: u32, case: &mut Case) -> Ran {
     case.left = case.kept;
@@ -45,14 +53,22 @@ impl Ran {
             && are_same(&self.left.store[used..], &kept.store[used..])
     }
 
-    // Whether a run under a limit keeps to the plain one: the same from its units on, spent below them, with the same edges. There the store has the first circles of the
-    // plain run's, unless the run is a fit.
-    fn keeps(&self, plain: &Ran, is_fit: bool, limit: u32, kept: &Left) -> bool {
+    // Whether a spent run left what such a run leaves.
+    fn leaves(&self, spent: Spent, plain: &Ran, kept: &Left) -> bool {
+        match spent {
+            Spent::FirstCircles => self.is_start(plain, kept),
+            Spent::Anything => true,
+            Spent::AsBefore(count) => self.told[1] == count as u64 && self.left.is_same(kept),
+        }
+    }
+
+    // Whether a run under a limit keeps to the plain one: the same from its units on, spent below them, with the same edges.
+    fn keeps(&self, plain: &Ran, spent: Spent, limit: u32, kept: &Left) -> bool {
         self.has_same_edges(plain)
             && if plain.told[2] <= u64::from(limit) {
                 self.is_same(plain)
             } else {
-                self.is_spent(limit) && (is_fit || self.is_start(plain, kept))
+                self.is_spent(limit) && self.leaves(spent, plain, kept)
             }
     }
 
@@ -72,13 +88,13 @@ impl Ran {
 }
 
 // Whether the run that word 2 of the line names keeps to the plain one at each limit from word 1 up to two above its units.
-pub(crate) fn keep(line: &[u8], is_fit: bool, case: &mut Case) -> bool {
+pub(crate) fn keep(line: &[u8], spent: Spent, case: &mut Case) -> bool {
     case.kept = case.left;
     let plain = run(line, 2, NO_LIMIT, case);
     let end = (plain.told[2] % 1000) as u32 + 3;
     for limit in limit_of(line, 1)..end {
         let ran = run(line, 2, limit, case);
-        if !ran.keeps(&plain, is_fit, limit, &case.kept) {
+        if !ran.keeps(&plain, spent, limit, &case.kept) {
             return false;
         }
     }
