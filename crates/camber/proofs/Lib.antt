@@ -2,6 +2,8 @@
 pub mod MarchMachine
 pub mod MarchLaw
 pub mod MarchSlots
+pub mod GoodMarches
+pub mod MarchAgain
 pub mod EdgesLaw
 pub mod MarchLoop
 pub mod MarchFrom

@@ -13,7 +13,7 @@ use Rattle.errors.specs.Answer.{Answer}
 use Rattle.errors.proofs.Laws.{not_0, not_14}
 use Rattle.runs.specs.Run.{Move, goes, pays, Ending, ended, spent, unfinished, Final, under_limit, never, whole}
 use Rattle.runs.proofs.RunLaws.{Falls}
-use Rattle.runs.proofs.LimitLaws.{Grows, part_grows, run_holds, spent_if, if_spent, not-spent, units-min, not-spent_later, part_later, finishes}
+use Rattle.runs.proofs.LimitLaws.{Grows, part_grows, run_holds, Limited, spent_if, if_spent, not-spent, units-min, not-spent_later, part_later, limited_runs, finishes}
 use Rattle.inscribed.specs.Store.{width, circles_of, all_numbers, stored}
 use Rattle.inscribed.specs.declared.Inscribed.{Inscribed}
 use Rattle.inscribed.proofs.StoreLaws.{length_all, numbers-append, length-circles, numbers_of-circles}
@@ -75,22 +75,19 @@ first_numbers cs more old =
     rw (numbers-append cs more, append_assoc (all_numbers cs) (all_numbers more) (drop (width * length (cs ++ more)) old))
     (take_at (all_numbers cs) (all_numbers more ++ drop (width * length (cs ++ more)) old) (width * length cs) (length_all cs))
 
--- ---- a run
+-- ---- a family of runs, whose list begins with the old circles and whose pairs are settled
 
-module _ (step : State → Move State End) (measure : State → ℕ) (falls : Falls step measure) (grows : Grows step Part) (ns : List Float) (tol : Float) (old : List Float) (count : ℕ) (start : State)
-    (begins : circles_in start ≡ circles_of old count) (room : width * count ≤ length old) (start_sound : Sound ns tol count start)
-    (sound-goes : (s t : State) → step s ≡ goes t → Sound ns tol count s → Sound ns tol count t) (sound-pays : (s t : State) → step s ≡ pays t → Sound ns tol count s → Sound ns tol count t) where
+module _ (o : (ℕ → Bool) → Final State End) (limited : Limited o Part) (over : (full : ℕ → Bool) → (o full).ending ≡ unfinished → ⊥) (ns : List Float) (tol : Float) (old : List Float) (count : ℕ) (room : width * count ≤ length old)
+    (grown : (full : ℕ → Bool) → (more : List Inscribed) × (circles_in (o full).state ≡ circles_of old count ++ more)) (sound : (full : ℕ → Bool) → Sound ns tol count (o full).state) where
   abbrev pub circles_under : (ℕ → Bool) → List Inscribed
-  circles_under full = circles_in (whole step measure full start 0).state
+  circles_under full = circles_in (o full).state
 
   -- the old circles, and then those accepted
   whole_list : (full : ℕ → Bool) → circles_under full ≡ circles_of old count ++ drop count (circles_under full)
-  unfolding whole
   whole_list full =
-      let p = part_grows step Part grows full (suc (measure start)) start 0 in
-      let e : circles_under full ≡ circles_of old count ++ p.0 = p.1 ∙ ap (λ (x : List Inscribed). x ++ p.0) begins in
-      let d : drop count (circles_under full) ≡ p.0 = ap (λ (x : List Inscribed). drop count x) e ∙ drop_at (circles_of old count) p.0 count (length-circles old 0 count) in
-      e ∙ ap (λ (x : List Inscribed). circles_of old count ++ x) (sym d)
+      let p = grown full in
+      let d : drop count (circles_under full) ≡ p.0 = ap (λ (x : List Inscribed). drop count x) p.1 ∙ drop_at (circles_of old count) p.0 count (length-circles old 0 count) in
+      p.1 ∙ ap (λ (x : List Inscribed). circles_of old count ++ x) (sym d)
 
   whole_count : (full : ℕ → Bool) → length (circles_under full) ≡ count + length (drop count (circles_under full))
   whole_count full =
@@ -105,35 +102,51 @@ module _ (step : State → Move State End) (measure : State → ℕ) (falls : Fa
       ap (λ (x : List Float). x ++ drop (width * length (circles_under full)) old) n ∙ ap (λ (x : ℕ). take (width * count) old ++ all_numbers ds ++ drop (width * x) old) (whole_count full)
 
   whole_settled : (full : ℕ → Bool) → Settled ns tol (old_last old count ++ drop count (circles_under full))
-  unfolding whole
   whole_settled full =
-      let s = run_holds step full (Sound ns tol count) sound-goes sound-pays (suc (measure start)) start 0 start_sound in
       let d : drop (count - 1) (circles_under full) ≡ old_last old count ++ drop count (circles_under full) =
       ap (λ (x : List Inscribed). drop (count - 1) x) (whole_list full) ∙ drop-append-le (count - 1) (circles_of old count) (drop count (circles_under full)) (omega (arith, length-circles old 0 count)) in
-      rw d at s.settled
+      rw d at (sound full).settled
 
   abbrev pub at : ℕ → Called (Unit {0})
-  at limit = ran (reported old (whole step measure (under_limit limit) start 0))
+  at limit = ran (reported old (o (under_limit limit)))
 
-  run_ends : (full : ℕ → Bool) → (whole step measure full start 0).ending ≡ unfinished → ⊥
-  run_ends full = finishes step measure falls full start 0
-
-  pub run_law : (limit : ℕ) → LimitLaw ns tol old count at (ran (reported old (whole step measure never start 0))) (λ l. drop count (circles_under (under_limit l))) limit
+  pub family_law : (limit : ℕ) → LimitLaw ns tol old count at (ran (reported old (o never))) (λ l. drop count (circles_under (under_limit l))) limit
   unfolding reported
-  run_law limit = record {
-    plain_ends = run_ends never;
-    ends = run_ends (under_limit limit);
+  family_law limit = record {
+    plain_ends = over never;
+    ends = over (under_limit limit);
     store = whole_store (under_limit limit);
     counted = whole_count (under_limit limit);
     settled = whole_settled (under_limit limit);
-    spent_if = λ h. ap ending_number (spent_if step measure start Part grows limit h);
-    if_spent = λ e. if_spent step measure start Part grows limit (spent-number _ e (run_ends (under_limit limit)));
-    units = units-min step measure start Part grows limit;
-    otherwise = λ m. ap (λ (o : Final State End). ran (reported old o)) (not-spent step measure start Part grows limit (λ e. m (ap ending_number e)));
-    larger = λ more h m. ap (λ (o : Final State End). ran (reported old o)) (not-spent_later step measure start Part grows limit more h (λ e. m (ap ending_number e)));
+    spent_if = λ h. ap ending_number (spent_if o Part limited limit h);
+    if_spent = λ e. if_spent o Part limited limit (spent-number _ e (over (under_limit limit)));
+    units = units-min o Part limited limit;
+    otherwise = λ m. ap (λ (p : Final State End). ran (reported old p)) (not-spent o Part limited limit (λ e. m (ap ending_number e)));
+    larger = λ more h m. ap (λ (p : Final State End). ran (reported old p)) (not-spent_later o Part limited limit more h (λ e. m (ap ending_number e)));
     first = λ more h.
-        let p = part_later step measure start Part grows limit more h in
+        let p = part_later o Part limited limit more h in
         let cs = circles_under (under_limit limit) in
         rw p.1 (first_numbers cs p.0 old) ∙ sym (ap (λ (x : List Inscribed). take (width * length cs) (stored x old)) (sym (append-nil cs)) ∙ first_numbers cs [] old);
-    fewer = λ more h. let p = part_later step measure start Part grows limit more h in omega (arith, ap length p.1, length-append (circles_under (under_limit limit)) p.0);
+    fewer = λ more h. let p = part_later o Part limited limit more h in omega (arith, ap length p.1, length-append (circles_under (under_limit limit)) p.0);
   }
+
+-- ---- the whole run of a machine
+
+module _ (step : State → Move State End) (measure : State → ℕ) (falls : Falls step measure) (grows : Grows step Part) (ns : List Float) (tol : Float) (old : List Float) (count : ℕ) (start : State)
+    (begins : circles_in start ≡ circles_of old count) (room : width * count ≤ length old) (start_sound : Sound ns tol count start)
+    (sound-goes : (s t : State) → step s ≡ goes t → Sound ns tol count s → Sound ns tol count t) (sound-pays : (s t : State) → step s ≡ pays t → Sound ns tol count s → Sound ns tol count t) where
+  abbrev runs : (ℕ → Bool) → Final State End
+  runs full = whole step measure full start 0
+
+  run_grown : (full : ℕ → Bool) → (more : List Inscribed) × (circles_in (runs full).state ≡ circles_of old count ++ more)
+  unfolding whole
+  run_grown full =
+      let p = part_grows step Part grows full (suc (measure start)) start 0 in
+      (p.0, p.1 ∙ ap (λ (x : List Inscribed). x ++ p.0) begins)
+
+  run_sound : (full : ℕ → Bool) → Sound ns tol count (runs full).state
+  unfolding whole
+  run_sound full = run_holds step full (Sound ns tol count) sound-goes sound-pays (suc (measure start)) start 0 start_sound
+
+  pub run_law : (limit : ℕ) → LimitLaw ns tol old count (λ l. ran (reported old (runs (under_limit l)))) (ran (reported old (runs never))) (λ l. drop count (circles_in (runs (under_limit l)).state)) limit
+  run_law limit = family_law runs (limited_runs step measure start Part grows) (λ full. finishes step measure falls full start 0) ns tol old count room run_grown run_sound limit

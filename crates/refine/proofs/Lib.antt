@@ -12,3 +12,7 @@ pub mod ThinLaws
 pub mod ThinLoop
 pub mod ThinPlaces
 pub mod ThinningLaw
+pub mod OffersLaws
+pub mod OffersLaw
+pub mod GoodLaws
+pub mod AgainLaws

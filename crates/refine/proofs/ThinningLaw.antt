@@ -19,7 +19,7 @@ use Rattle.curve2.specs.declared.AlsoBad.{AlsoBad}
 use Rattle.curve2.proofs.Laws.{or_left, or_right, NoneBad, none_bad}
 use Rattle.runs.specs.Run.{Ending, ended, spent, unfinished, Final, under_limit, never}
 use Rattle.runs.proofs.RunLaws.{whole_ends, whole_goes}
-use Rattle.runs.proofs.LimitLaws.{Grows, spent_if, if_spent, not-spent, units-min, not-spent_later, finishes}
+use Rattle.runs.proofs.LimitLaws.{Grows, Limited, spent_if, if_spent, not-spent, units-min, not-spent_later, limited_runs, finishes}
 use Rattle.circles.specs.Trial.{trial}
 use Rattle.inscribed.specs.Store.{width, circle_at, circles_from, circles_of, all_numbers, bad_circle, any_bad, slots, slots_within, bad_store, bad_store_count}
 use Rattle.inscribed.specs.declared.Inscribed.{Inscribed}
@@ -159,20 +159,21 @@ module _ (ns : List Float) (tol : Float) (old : List Float) where
     grows : Grows (thin_step ns tol) Any
     grows = record { same = λ s. tt; chain = λ s v w p q. tt; goes_on = λ s v p. tt; pays_on = λ s v p. tt }
 
+    runs : Limited run Any
+    runs = limited_runs (thin_step ns tol) thin_measure (thinning [] (circles_of old n)) Any grows
+
     pub run_limit_law : (limit : ℕ) → ThinLimitLaw (λ l. told (under_limit l)) (told never) limit
     run_limit_law limit =
-        let step = thin_step ns tol in
-        let start = thinning [] (circles_of old n) in
         let same : Final ThinState End → Called (Unit {0}) = λ o. ran (thin_report old n o) in
         let unspent : (called_number (told (under_limit limit)) ≡ 14 → ⊥) → (run (under_limit limit)).ending ≡ spent → ⊥ = λ m e. m (number_is (under_limit limit) ∙ ap ending_number e) in
         record {
           plain_ends = told_ends never;
           ends = told_ends (under_limit limit);
-          spent_if = λ h. number_is (under_limit limit) ∙ ap ending_number (spent_if step thin_measure start Any grows limit (rw (units_are never) at h));
-          if_spent = λ e. rw (units_are never) (if_spent step thin_measure start Any grows limit (spent-number _ (sym (number_is (under_limit limit)) ∙ e) (run_ends (under_limit limit))));
-          units = rw (units_are (under_limit limit), units_are never) (units-min step thin_measure start Any grows limit);
-          otherwise = λ m. ap same (not-spent step thin_measure start Any grows limit (unspent m));
-          larger = λ more h m. ap same (not-spent_later step thin_measure start Any grows limit more h (unspent m));
+          spent_if = λ h. number_is (under_limit limit) ∙ ap ending_number (spent_if run Any runs limit (rw (units_are never) at h));
+          if_spent = λ e. rw (units_are never) (if_spent run Any runs limit (spent-number _ (sym (number_is (under_limit limit)) ∙ e) (run_ends (under_limit limit))));
+          units = rw (units_are (under_limit limit), units_are never) (units-min run Any runs limit);
+          otherwise = λ m. ap same (not-spent run Any runs limit (unspent m));
+          larger = λ more h m. ap same (not-spent_later run Any runs limit more h (unspent m));
         }
 
   -- ---- what it leaves

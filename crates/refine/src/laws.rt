@@ -1,4 +1,4 @@
-//! The laws of refinements and thinnings: each is the contract of a function without a parameter, whose body is empty. What it says is a record of `specs/Law` or `specs/ThinLaw`, a field to a sentence.
+//! The laws of refinements, of lists that are offered, and of thinnings: each is the contract of a function without a parameter, whose body is empty. What it says is a record of `specs/Law` or `specs/ThinLaw`, a field to a sentence.
 ghost use Rattle.std.specs.Prelude.{◌≡◌, false, ℕ, ◌≤◌, Ok};
 ghost use Rattle.runs.specs.Run.{under_limit};
 ghost use Rattle.inscribed.specs.Store.{bad_circle};
@@ -8,6 +8,7 @@ ghost use Rattle.refine.specs.Refinement.{Offer, refine_of, plain_refinement, ac
 ghost use Rattle.refine.specs.Report.{count_of};
 ghost use Rattle.refine.specs.Thinning.{Unthinned, thin_entry, thin_of, plain_thinning};
 ghost use Rattle.refine.specs.ThinLaw.{ThinLaw, ThinLimitLaw, offer_after, LaterRefinementLaw};
+ghost use Rattle.refine.specs.Offers.{Offers, refine_all_of, plain_refine_all, all_accepted};
 
 /// The limit law of refinements, on every input, at every limit of units and every slot limit: that of `refine_and_push` at 1,024 slots, and that of `refine_and_push_cell` at 256.
 /// A run under a limit is the plain run cut short: spent exactly where the plain run takes more units, its circles the first ones of those at every larger limit, and any other ending the same at every larger limit.
@@ -45,4 +46,9 @@ pub fn thin_limit_law()
 pub fn later_refinement_law()
     ensures { (t : Unthinned) (limit slot_limit later : ℕ) (circle : Inscribed) → thin_entry t ≡ Ok tt → bad_circle circle ≡ false
         → count_of t.count (thin_of t limit) ≤ slot_limit → LaterRefinementLaw (offer_after t (thin_of t limit) slot_limit circle) later }
+{}
+
+/// The limit law of lists that are offered, on every input, at every limit of units over all and every slot limit: that of `offers::refine_all` and of `offers::refine_all_cell`.
+pub fn limit_law_of_lists()
+    ensures { (o : Offers) (limit : ℕ) → LimitLaw o.section o.tol o.store o.count (refine_all_of o) (plain_refine_all o) (λ l. all_accepted o (under_limit l)) limit }
 {}

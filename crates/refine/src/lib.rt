@@ -1,9 +1,10 @@
-// Refinement: `refine_and_push` as a run counted in units, within a limit. The circles of a store are thinned in `thinning`, and `laws` has what holds of both.
+// Refinement: `refine_and_push` as a run counted in units, within a limit. A list of circles is offered in `offers`, the circles of a store are thinned in `thinning`, and `laws` has what holds of all three.
 #![tactic(auto)]
 
 pub mod checked;
 pub mod laws;
 mod moves;
+pub mod offers;
 pub mod thinning;
 mod waiting;
 

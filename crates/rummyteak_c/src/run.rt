@@ -2,6 +2,7 @@
 ghost use Rattle.std.specs.Prelude.{◌≡◌};
 ghost use Rattle.inscribed.specs.Store.{circle_at, most_slots, cell_slots};
 ghost use Rattle.refine.specs.Refinement.{refine_of};
+ghost use Rattle.refine.specs.Offers.{refine_all_of};
 ghost use Rattle.refine.specs.Thinning.{thin_of};
 ghost use Rattle.camber.specs.March.{march_of, march_told};
 ghost use Rattle.camber.specs.Extraction.{extraction_of};
@@ -89,6 +90,70 @@ pub extern "C" fn rummyteak_thin(
         tol,
         store,
         stated,
+        limit,
+        count,
+        units,
+    )
+}
+
+/// The first `offered_count` circles of a list, offered in order to a store that holds `stated`, within one limit of units over all.
+///
+/// Refused on entry, with the store untouched: 1, 2, 3, 23, 4, 6; 2 and 4 test the circles that are offered too. Refused later (10, 11, 12, 15, 16), or spent (14): the store keeps the circles that it accepted.
+#[unsafe(no_mangle)]
+pub extern "C" fn rummyteak_refine_all(
+    section: &[f64],
+    section_tol: f64,
+    tol: f64,
+    store: &mut [f64],
+    stated: usize,
+    offered: &[f64],
+    offered_count: usize,
+    limit: u32,
+    count: &mut usize,
+    units: &mut u32,
+) -> u32
+    ensures { (record { number = result; count = count.new; units = units.new; store = store.new }) ≡ told_run count.old units.old (refine_all_of (record { section = section.now; section_tol = section_tol; tol = tol; store = store.old; count = stated; slot_limit = most_slots; offered = offered.now; offered_count = offered_count }) limit) }
+{
+    rummyteak::run::rummyteak_refine_all(
+        section,
+        section_tol,
+        tol,
+        store,
+        stated,
+        offered,
+        offered_count,
+        limit,
+        count,
+        units,
+    )
+}
+
+/// `rummyteak_refine_all` for the cell: the store holds 256 circles at most.
+///
+/// Refused on entry, with the store untouched: 1, 2, 3, 23, 4, 6; 4 is a count above 256 too. Refused later (15 for a 257th circle), or spent (14): the store keeps the circles that it accepted.
+#[unsafe(no_mangle)]
+pub extern "C" fn rummyteak_refine_all_cell(
+    section: &[f64],
+    section_tol: f64,
+    tol: f64,
+    store: &mut [f64],
+    stated: usize,
+    offered: &[f64],
+    offered_count: usize,
+    limit: u32,
+    count: &mut usize,
+    units: &mut u32,
+) -> u32
+    ensures { (record { number = result; count = count.new; units = units.new; store = store.new }) ≡ told_run count.old units.old (refine_all_of (record { section = section.now; section_tol = section_tol; tol = tol; store = store.old; count = stated; slot_limit = cell_slots; offered = offered.now; offered_count = offered_count }) limit) }
+{
+    rummyteak::run::rummyteak_refine_all_cell(
+        section,
+        section_tol,
+        tol,
+        store,
+        stated,
+        offered,
+        offered_count,
         limit,
         count,
         units,

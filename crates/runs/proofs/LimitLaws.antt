@@ -125,64 +125,63 @@ module _ {S E : Type 0} (step : S → Move S E) where
             pick false false w k = k
             pick false true w k = let z : false ≡ true = w refl in let y : ◌≡◌ {A = ℕ} 0 1 = cc in absurd (omega arith)
 
--- ---- the laws of limits, of the whole run from a state on with no unit taken
+-- ---- the laws of limits, of any family of runs: one for each test of where no further unit may be taken
 
-module _ {S E : Type 0} (step : S → Move S E) (measure : S → ℕ) (s : S) where
-  abbrev pub plain : Final S E
-  plain = whole step measure never s 0
+-- of two of them, the one that is cut short sooner is the other one, or it is spent, with fewer units, in a state that is a first part of the other's
+pub record Limited {S E : Type 0} (o : (ℕ → Bool) → Final S E) (Part : S → S → Type 0) : Type 0 where
+  pub same : (s : S) → Part s s
+  pub compared_runs : (small large : ℕ → Bool) → ((u : ℕ) → large u ≡ true → small u ≡ true)
+      → (o small ≡ o large) ⊎ (((o small).ending ≡ spent) × ((o small).units < (o large).units) × Part (o small).state (o large).state)
+  pub within : (limit : ℕ) → (o (under_limit limit)).units ≤ limit
+  pub all_units : (limit : ℕ) → (o (under_limit limit)).ending ≡ spent → (o (under_limit limit)).units ≡ limit
+  pub unlimited : (o never).ending ≡ spent → ⊥
 
-  abbrev pub limited : ℕ → Final S E
-  limited limit = whole step measure (under_limit limit) s 0
+module _ {S E : Type 0} (o : (ℕ → Bool) → Final S E) (Part : S → S → Type 0) (l : Limited o Part) where
+  with_plain : (limit : ℕ) → (o (under_limit limit) ≡ o never) ⊎ (((o (under_limit limit)).ending ≡ spent) × ((o (under_limit limit)).units < (o never).units) × Part (o (under_limit limit)).state (o never).state)
+  with_plain limit = l.compared_runs (under_limit limit) never (λ u e. let z : ◌≡◌ {A = ℕ} 0 1 = cc in absurd (omega arith))
 
-  module _ (Part : S → S → Type 0) (grows : Grows step Part) where
-    with_plain : (limit : ℕ) → (limited limit ≡ plain) ⊎ (((limited limit).ending ≡ spent) × ((limited limit).units < plain.units) × Part (limited limit).state plain.state)
-    unfolding whole
-    with_plain limit = compared step Part grows (under_limit limit) never (λ u e. let z : ◌≡◌ {A = ℕ} 0 1 = cc in absurd (omega arith)) (suc (measure s)) s 0
+  with_larger : (limit more : ℕ) → limit ≤ more
+      → (o (under_limit limit) ≡ o (under_limit more)) ⊎ (((o (under_limit limit)).ending ≡ spent) × ((o (under_limit limit)).units < (o (under_limit more)).units) × Part (o (under_limit limit)).state (o (under_limit more)).state)
+  with_larger limit more h = l.compared_runs (under_limit limit) (under_limit more) (λ u e. le-leb limit u (omega (arith, leb-true more u e)))
 
-    with_larger : (limit more : ℕ) → limit ≤ more
-        → (limited limit ≡ limited more) ⊎ (((limited limit).ending ≡ spent) × ((limited limit).units < (limited more).units) × Part (limited limit).state (limited more).state)
-    unfolding whole
-    with_larger limit more h =
-        compared step Part grows (under_limit limit) (under_limit more) (λ u e. le-leb limit u (omega (arith, leb-true more u e))) (suc (measure s)) s 0
+  -- spent exactly where the run without a limit takes more units than the limit
+  pub spent_if : (limit : ℕ) → limit < (o never).units → (o (under_limit limit)).ending ≡ spent
+  spent_if limit h = ⊎_elim (λ e. absurd (omega (arith, l.within limit, h, ap (λ (p : Final S E). p.units) e))) (λ k. k.0) (with_plain limit)
 
-    within : (limit : ℕ) → (limited limit).units ≤ limit
-    unfolding whole
-    within limit = units_within step limit (suc (measure s)) s 0 (omega arith)
+  pub if_spent : (limit : ℕ) → (o (under_limit limit)).ending ≡ spent → limit < (o never).units
+  if_spent limit p = ⊎_elim (λ e. absurd (l.unlimited (sym (ap (λ (p : Final S E). p.ending) e) ∙ p))) (λ k. omega (arith, k.1, l.all_units limit p)) (with_plain limit)
 
-    all_units : (limit : ℕ) → (limited limit).ending ≡ spent → (limited limit).units ≡ limit
-    unfolding whole
-    all_units limit e = spent-units step limit (suc (measure s)) s 0 (omega arith) e
+  -- any other ending is that of the run without a limit, with all else
+  pub not-spent : (limit : ℕ) → ((o (under_limit limit)).ending ≡ spent → ⊥) → o (under_limit limit) ≡ o never
+  not-spent limit n = ⊎_elim (λ e. e) (λ k. absurd (n k.0)) (with_plain limit)
 
-    plain_ends : plain.ending ≡ spent → ⊥
-    unfolding whole
-    plain_ends e = never-spent step (suc (measure s)) s 0 e
+  -- the units are the smaller of the two
+  pub units-min : (limit : ℕ) → (o (under_limit limit)).units ≡ min limit (o never).units
+  units-min limit =
+      ⊎_elim
+      (λ e. let q = ap (λ (p : Final S E). p.units) e in omega (arith, l.within limit, q))
+      (λ k. omega (arith, k.1, l.all_units limit k.0))
+      (with_plain limit)
 
-    -- spent exactly where the run without a limit takes more units than the limit
-    pub spent_if : (limit : ℕ) → limit < plain.units → (limited limit).ending ≡ spent
-    spent_if limit h = ⊎_elim (λ e. absurd (omega (arith, within limit, ap (λ (o : Final S E). o.units) e))) (λ k. k.0) (with_plain limit)
+  -- and every larger limit gives the same
+  pub not-spent_later : (limit more : ℕ) → limit ≤ more → ((o (under_limit limit)).ending ≡ spent → ⊥) → o (under_limit more) ≡ o (under_limit limit)
+  not-spent_later limit more h n = ⊎_elim (λ e. sym e) (λ k. absurd (n k.0)) (with_larger limit more h)
 
-    pub if_spent : (limit : ℕ) → (limited limit).ending ≡ spent → limit < plain.units
-    if_spent limit p = ⊎_elim (λ e. absurd (plain_ends (sym (ap (λ (o : Final S E). o.ending) e) ∙ p))) (λ k. omega (arith, k.1, all_units limit p)) (with_plain limit)
+  -- the state under a limit is a first part of that under any larger one
+  pub part_later : (limit more : ℕ) → limit ≤ more → Part (o (under_limit limit)).state (o (under_limit more)).state
+  part_later limit more h = ⊎_elim (λ e. rw e (l.same _)) (λ k. k.2) (with_larger limit more h)
 
-    -- any other ending is that of the run without a limit, with all else
-    pub not-spent : (limit : ℕ) → ((limited limit).ending ≡ spent → ⊥) → limited limit ≡ plain
-    not-spent limit n = ⊎_elim (λ e. e) (λ k. absurd (n k.0)) (with_plain limit)
-
-    -- the units are the smaller of the two
-    pub units-min : (limit : ℕ) → (limited limit).units ≡ min limit plain.units
-    units-min limit =
-        ⊎_elim
-        (λ e. let q = ap (λ (o : Final S E). o.units) e in omega (arith, within limit, q))
-        (λ k. omega (arith, k.1, all_units limit k.0))
-        (with_plain limit)
-
-    -- and every larger limit gives the same
-    pub not-spent_later : (limit more : ℕ) → limit ≤ more → ((limited limit).ending ≡ spent → ⊥) → limited more ≡ limited limit
-    not-spent_later limit more h n = ⊎_elim (λ e. sym e) (λ k. absurd (n k.0)) (with_larger limit more h)
-
-    -- the state under a limit is a first part of that under any larger one, and of that without one
-    pub part_later : (limit more : ℕ) → limit ≤ more → Part (limited limit).state (limited more).state
-    part_later limit more h = ⊎_elim (λ e. rw e (grows.same _)) (λ k. k.2) (with_larger limit more h)
+-- the whole run of a machine from a state on is such a family
+module _ {S E : Type 0} (step : S → Move S E) (measure : S → ℕ) (s : S) (Part : S → S → Type 0) (grows : Grows step Part) where
+  pub limited_runs : Limited (λ full. whole step measure full s 0) Part
+  unfolding whole
+  limited_runs = record {
+    same = grows.same;
+    compared_runs = λ small large sooner. compared step Part grows small large sooner (suc (measure s)) s 0;
+    within = λ limit. units_within step limit (suc (measure s)) s 0 (omega arith);
+    all_units = λ limit e. spent-units step limit (suc (measure s)) s 0 (omega arith) e;
+    unlimited = λ e. never-spent step (suc (measure s)) s 0 e;
+  }
 
 -- A run whose measure falls is never unfinished.
 module _ {S E : Type 0} (step : S → Move S E) (measure : S → ℕ) (falls : Falls step measure) (full : ℕ → Bool) where
