@@ -4,10 +4,10 @@
  * beforehand: any content and any lengths are met by a result or by one of these numbers, and every call ends.
  *
  * What a call writes. A result writes what the function's comment says. A refusal writes nothing, but for a run
- * (refine_and_push, march, extract_circles, fit_open_edge) that was not refused on entry: it keeps its accepted circles in the
- * store and writes count and units. The entries for the cell (refine_and_push_cell, march_cell) are such runs. A thinning (thin)
- * that is refused later, or spent, writes count and units too, and leaves the whole store as it was. An output keeps what stands
- * behind the result.
+ * (refine_and_push, refine_all, march, extract_circles, fit_open_edge) that was not refused on entry: it keeps its accepted
+ * circles in the store and writes count and units. The entries for the cell (refine_and_push_cell, refine_all_cell, march_cell)
+ * are such runs. A thinning (thin) that is refused later, or spent, writes count and units too, and leaves the whole store as it
+ * was. An output keeps what stands behind the result.
  *
  * What the caller owes. A pointer with a length points to that many numbers (with length 0 it may be null); a pointer
  * without one points to as many as its comment says. What is written overlaps nothing else that is handed in.
@@ -216,6 +216,36 @@ uint32_t rummyteak_refine_and_push_cell(const double *section, size_t section_le
 uint32_t rummyteak_march_cell(const double *section, size_t section_len, double section_tol, double tol, double ox,
                               double oy, double dx, double dy, double *store, size_t store_len, uint32_t limit,
                               size_t *count, uint32_t *units, size_t *edges, bool *found);
+
+/* Offers the circles of a list in order to a store that holds `stated`, each refined until none waits before the next is offered,
+ * within one limit of units over all: what planning calls with an old list after a changeover.
+ * The list is a store of its own, offered, which is only read; the first offered_count of its circles are offered. It holds its
+ * length / RUMMYTEAK_WIDTH circles, and at most RUMMYTEAK_SLOTS, by the entry for the cell too.
+ * Tested on entry, in this order: 1; 2, of the section, of the circles in use of the store and of the circles of the list that are
+ * offered, of each as far as it holds them; 3; 23; 4, a stated count above what the store holds, or an offered count above what
+ * the list holds; 6.
+ * All of this is tested before the first circle is offered, and a refusal on entry writes nothing.
+ * Each circle is refined as by refine_and_push, with the store and the count that the one before left and the units that are left.
+ * A result: all were offered, count is how many circles are in use then, and units are those of all together. With no circle in
+ * the list the store is as it was, count is the stated count, and no unit is taken.
+ * Spent (14) or refused later (10, 11, 12, 15, 16): no circle behind that one is offered. The store keeps the circles that were
+ * accepted, later slots untouched, and count and units are written. The circles of a spent call are the first ones, bit for bit,
+ * of the same call under any larger limit; an ending other than 14 is the same at every larger limit, in all.
+ * The circles that a march left that was not refused on entry, by either entry and whichever way it ended then, finished, spent or
+ * refused later: offered to an empty store with as many slots, by the same entry, with the march's section and tolerances and a
+ * limit of at least one unit fewer than there are circles, they are a result with the same circles, bit for bit, for one unit fewer than there are circles, and none
+ * where there are none. What stands behind them in the store stays. Of an extraction that is not promised: circles may be added
+ * where its halves meet, and in its first half, which was turned. */
+uint32_t rummyteak_refine_all(const double *section, size_t section_len, double section_tol, double tol, double *store,
+                              size_t store_len, size_t stated, const double *offered, size_t offered_len,
+                              size_t offered_count, uint32_t limit, size_t *count, uint32_t *units);
+
+/* The same for the cell: the store holds at most RUMMYTEAK_CELL_SLOTS circles, however long it is, and 2, 4 and 15 go by these
+ * slots, as in refine_and_push_cell. The list may hold up to RUMMYTEAK_SLOTS. */
+uint32_t rummyteak_refine_all_cell(const double *section, size_t section_len, double section_tol, double tol,
+                                   double *store, size_t store_len, size_t stated, const double *offered,
+                                   size_t offered_len, size_t offered_count, uint32_t limit, size_t *count,
+                                   uint32_t *units);
 
 /* Thins the circles of a store that holds `stated`, as a finished march left them: with the section and the tolerances of the
  * march.

@@ -447,6 +447,10 @@ fn circles(g: &mut Generator, s: &Shape, tol: f64, section: &[f64], tally: &mut 
         }
         tally.compare(Call::RefineAndPush(before), section, &join(t, c), &store);
         tally.compare(Call::RefineAndPushCell(before), section, &join(t, c), &store);
+        // Any list of them, offered to these and to none.
+        let some: Vec<f64> = (0..g.below(5)).flat_map(|_| found[g.below(found.len())].clone()).collect();
+        tally.compare(Call::RefineAll(0), section, &join(t, &some), &store);
+        tally.compare(Call::RefineAllCell(before), section, &join(t, &some), &store);
     }
     let mut list = vec![REST; WIDTH * found.len() + 3];
     for (k, c) in found.iter().enumerate() {
@@ -548,12 +552,15 @@ fn runs(g: &mut Generator, s: &Shape, tol: f64, section: &[f64], tally: &mut Tal
         let store = vec![REST; WIDTH * SLOTS + g.below(WIDTH)];
         let marched = tally.compare(Call::March, section, &join(t, &l), &store);
         tally.compare(Call::Thin(marched.told[1] as usize), section, &t, &marched.store);
-        tally.compare(Call::MarchCell, section, &join(t, &l), &store);
+        tally.offer_again(Call::March, section, t, &marched);
+        let marched = tally.compare(Call::MarchCell, section, &join(t, &l), &store);
+        tally.offer_again(Call::MarchCell, section, t, &marched);
         // A finer tolerance, by which a march may leave more circles than the cell holds.
         if k == 0 && section.len() < 80 {
             let finer = [tol, (t[1] / 64.0).max(tol).max(1e-6)];
             tally.compare(Call::March, section, &join(finer, &l), &store);
-            tally.compare(Call::MarchCell, section, &join(finer, &l), &store);
+            let marched = tally.compare(Call::MarchCell, section, &join(finer, &l), &store);
+            tally.offer_again(Call::MarchCell, section, finer, &marched);
         }
         let whole = tally.compare(Call::Extract, section, &join(t, &l), &store);
         let count = whole.told[1] as usize;
@@ -561,6 +568,10 @@ fn runs(g: &mut Generator, s: &Shape, tol: f64, section: &[f64], tally: &mut Tal
             continue;
         }
         tally.compare(Call::Thin(count), section, &t, &whole.store);
+        // The circles of both sides, offered to an empty list, and behind the first of them.
+        let list = join(t, &whole.store[..WIDTH * count]);
+        tally.compare(Call::RefineAll(0), section, &list, &store);
+        tally.compare(Call::RefineAllCell(1), section, &list, &whole.store);
         if k == 0 {
             lists(g, s, &whole.store, count, tally);
         }

@@ -37,6 +37,14 @@ unsafe extern "C" {
         p: In, n: usize, section_tol: f64, tol: f64, ox: f64, oy: f64, dx: f64, dy: f64, s: Out, l: usize, limit: u32, count: &mut usize,
         units: &mut u32,
     ) -> u32;
+    pub fn rummyteak_refine_all(
+        p: In, n: usize, section_tol: f64, tol: f64, s: Out, l: usize, stated: usize, offered: In, offered_len: usize, offered_count: usize, limit: u32,
+        count: &mut usize, units: &mut u32,
+    ) -> u32;
+    pub fn rummyteak_refine_all_cell(
+        p: In, n: usize, section_tol: f64, tol: f64, s: Out, l: usize, stated: usize, offered: In, offered_len: usize, offered_count: usize, limit: u32,
+        count: &mut usize, units: &mut u32,
+    ) -> u32;
     pub fn rummyteak_thin(
         p: In, n: usize, section_tol: f64, tol: f64, s: Out, l: usize, stated: usize, limit: u32, count: &mut usize, units: &mut u32,
     ) -> u32;

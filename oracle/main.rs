@@ -212,7 +212,7 @@ fn extraction(input: &SectionInput, line: &Line2) -> Result<Wanted> {
     Ok(Wanted::run(list.take_vec(), units(2), vec![]))
 }
 
-// 02 (k)'s steps of a thinning over the published trial, from the front: the circles that are kept, with the lengths along that they had.
+// The steps of a thinning over the published trial, from the front: the circles that are kept, with the lengths along that they had.
 fn thinning(input: &SectionInput, store: &[f64], count: usize) -> Wanted {
     let list = circles_of(store, count);
     let mut kept: Vec<usize> = (0..count.min(1)).collect();
@@ -276,6 +276,13 @@ fn wanted(call: Call, section: &[f64], args: &[f64], store: &[f64]) -> Wanted {
         Call::RefineAndPush(count) | Call::RefineAndPushCell(count) => {
             let mut list = InscribedVec::new(circles_of(store, count));
             list.refine_and_push(circle_at(&args[2..]), &input);
+            Wanted::run(list.take_vec(), units(0), vec![])
+        }
+        Call::RefineAll(count) | Call::RefineAllCell(count) => {
+            let mut list = InscribedVec::new(circles_of(store, count));
+            for c in circles_of(&args[2..], args.len() / WIDTH) {
+                list.refine_and_push(c, &input);
+            }
             Wanted::run(list.take_vec(), units(0), vec![])
         }
         Call::March | Call::MarchCell => made_on(&curve, crossed(or_number(march(&input, &line_at(&args[2..]))))),
@@ -352,11 +359,17 @@ pub struct Tally {
     most_rounds: u64,
     most_circles: u64,
     cut: u64,
+    again: u64,
 }
 
 // The numbers of 01's "Domain" that are added, and 02 (e)'s 23: no answer of the Rust.
 fn is_added(number: u64) -> bool {
     matches!(number, 1..=4 | 6 | 10..=12 | 14..=16 | 23)
+}
+
+// The numbers that a march is refused by on entry.
+fn is_entry(number: u64) -> bool {
+    matches!(number, 1..=4 | 6 | 23)
 }
 
 fn same(a: &[f64], b: &[f64]) -> bool {
@@ -377,6 +390,7 @@ fn larger(call: Call, got: &port::Answer) -> Option<Call> {
     match call {
         Call::MarchCell => Some(Call::March),
         Call::RefineAndPushCell(count) => Some(Call::RefineAndPush(count)),
+        Call::RefineAllCell(count) => Some(Call::RefineAll(count)),
         _ => None,
     }
 }
@@ -391,7 +405,7 @@ fn difference(call: Call, got: &port::Answer, want: &Wanted, store: &[f64]) -> O
     }
     let is_run = matches!(
         call,
-        Call::RefineAndPush(_) | Call::RefineAndPushCell(_) | Call::March | Call::MarchCell | Call::Extract | Call::Thin(_) | Call::FitOpenEdge(..)
+        Call::RefineAndPush(_) | Call::RefineAndPushCell(_) | Call::RefineAll(_) | Call::RefineAllCell(_) | Call::March | Call::MarchCell | Call::Extract | Call::Thin(_) | Call::FitOpenEdge(..)
     );
     if want.number != 0 && want.circles.is_none() {
         // A refusal after the entry leaves accepted circles behind in a run; the Rust gives none to compare with.
@@ -457,6 +471,18 @@ impl Tally {
         got
     }
 
+    // The circles that a march left, offered again to an empty store with as many slots, by the same entry; unless the march was refused on entry, they have to be the same, for one unit fewer.
+    pub fn offer_again(&mut self, march: Call, section: &[f64], tolerances: [f64; 2], marched: &port::Answer) {
+        let count = marched.told[1] as usize;
+        let call = if march == Call::MarchCell { Call::RefineAllCell(0) } else { Call::RefineAll(0) };
+        let list = &marched.store[..WIDTH * count];
+        let got = self.compare(call, section, &[&tolerances[..], list].concat(), &vec![REST; marched.store.len()]);
+        if !is_entry(marched.told[0]) {
+            assert!(got.told[..3] == [0, count as u64, count.saturating_sub(1) as u64] && same(&got.store, &marched.store), "a march offered again is another list");
+            self.again += 1;
+        }
+    }
+
     fn report(&self) -> bool {
         println!("{:<20}{:>10}{:>10}{:>14}{:>11}", "", "values", "refused", "not compared", "different");
         let mut sum = [0u64; 4];
@@ -471,6 +497,7 @@ impl Tally {
         println!("not compared, by number: {:?}", self.outside);
         println!("most rounds of an edge fit: {}; most circles of a run: {}", self.most_rounds, self.most_circles);
         println!("of the values, lists cut at the cell's {CELL_SLOTS} circles: {}", self.cut);
+        println!("lists of one march, offered again and found the same: {}", self.again);
         println!("{} comparisons, {} different", sum[0] + sum[1], sum[3]);
         sum[3] == 0
     }

@@ -30,6 +30,9 @@ pub enum Call {
     Refined,
     RefineAndPush(usize),
     RefineAndPushCell(usize),
+    // The circles among the arguments, offered to a store that holds as many.
+    RefineAll(usize),
+    RefineAllCell(usize),
     March,
     MarchCell,
     Extract,
@@ -81,6 +84,8 @@ pub fn call(call: Call, section: &[f64], args: &[f64], store: &[f64]) -> Answer 
     // The two tolerances, then a length, a point, a vector or a line; or circles.
     let [t, g, x, y, dx, dy] = std::array::from_fn(|i| args.get(i).copied().unwrap_or(f64::NAN));
     let circle = |k: usize| args[2 + k * WIDTH..][..WIDTH].as_ptr();
+    let (offered, offered_len) = (args[2.min(args.len())..].as_ptr(), args.len().saturating_sub(2));
+    let offered_count = offered_len / WIDTH;
     let number = unsafe {
         match call {
             Call::FromPoints(force) => rummyteak_from_points(p, n, t, force, o, m, &mut count, &mut yes),
@@ -105,6 +110,12 @@ pub fn call(call: Call, section: &[f64], args: &[f64], store: &[f64]) -> Answer 
             },
             Call::RefineAndPush(stated) => rummyteak_refine_and_push(p, n, t, g, s, l, stated, circle(0), NO_LIMIT, &mut count, &mut units),
             Call::RefineAndPushCell(stated) => rummyteak_refine_and_push_cell(p, n, t, g, s, l, stated, circle(0), NO_LIMIT, &mut count, &mut units),
+            Call::RefineAll(stated) => {
+                rummyteak_refine_all(p, n, t, g, s, l, stated, offered, offered_len, offered_count, NO_LIMIT, &mut count, &mut units)
+            }
+            Call::RefineAllCell(stated) => {
+                rummyteak_refine_all_cell(p, n, t, g, s, l, stated, offered, offered_len, offered_count, NO_LIMIT, &mut count, &mut units)
+            }
             Call::March => rummyteak_march(p, n, t, g, x, y, dx, dy, s, l, NO_LIMIT, &mut count, &mut units, &mut edges, &mut yes),
             Call::MarchCell => rummyteak_march_cell(p, n, t, g, x, y, dx, dy, s, l, NO_LIMIT, &mut count, &mut units, &mut edges, &mut yes),
             Call::Extract => rummyteak_extract_circles(p, n, t, g, x, y, dx, dy, s, l, NO_LIMIT, &mut count, &mut units),

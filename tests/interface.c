@@ -415,6 +415,125 @@ static void cell_marches(void)
     release(r), release(s), release(none), release(store);
 }
 
+/* The circles that a march within a limit left in `old`, of `slots` slots, offered to an empty store with as many by the same entry: the same list within every
+ * limit that is large enough, its first circles within others, and NaNs behind. */
+static void one_again(const double *section, size_t section_len, double tol, double x, double y, double dy, size_t slots, uint32_t first, bool cell, uint32_t ending, size_t circles)
+{
+    double *old = rank_of(0), *store = rank_of(0), *list = marked(W * 300);
+    size_t count = 77, edges[2];
+    uint32_t units = 77, number;
+    bool found;
+    if (cell) {
+        EXPECT(rummyteak_march_cell(section, section_len, T, tol, x, y, 0, dy, old, W * slots, first, &count, &units, edges, &found) == ending);
+    } else {
+        EXPECT(rummyteak_march(section, section_len, T, tol, x, y, 0, dy, old, W * slots, first, &count, &units, edges, &found) == ending);
+    }
+    EXPECT(count == circles);
+    memcpy(list, old, W * 300 * sizeof *list);
+    for (uint32_t limit = 0; limit <= circles; limit++) {
+        bool enough = limit + 1 >= circles;
+        fill_with_nans(store, 0, W * 300);
+        if (cell) {
+            number = rummyteak_refine_all_cell(section, section_len, T, tol, store, W * slots, 0, list, W * 300, circles, limit, &count, &units);
+        } else {
+            number = rummyteak_refine_all(section, section_len, T, tol, store, W * slots, 0, list, W * 300, circles, limit, &count, &units);
+        }
+        EXPECT(number == (enough ? 0 : 14) && count == (enough ? circles : limit + 1) && units == (enough && circles ? circles - 1 : enough ? 0 : limit));
+        EXPECT(same(store, old, W * count) && are_nans(store, W * count, W * 300) && same(list, old, W * 300));
+    }
+    release(old), release(store), release(list);
+}
+
+static void offered_again(void)
+{
+    const double strip[] = {0, 0, 8, 0, 8, 0.1, 0, 0.1, 0, 0};
+    double *r = copy(R, RLEN), *s = copy(strip, RLEN), *large = rank_of(0), *store = rank_of(0);
+    size_t count = 77, edges[2];
+    uint32_t units = 77;
+    bool found;
+    for (int cell = 0; cell < 2; cell++) {
+        one_again(r, RLEN, G, 4, 1, 1, 300, RUMMYTEAK_NO_LIMIT, cell, 0, 52);
+        one_again(r, RLEN, G, 4, 1, 1, 300, 30, cell, 14, 16);
+        one_again(r, RLEN, G, 4, 1, 1, 300, 0, cell, 14, 1);
+        one_again(r, RLEN, G, 4, 1, 1, 10, RUMMYTEAK_NO_LIMIT, cell, 15, 10);
+        one_again(r, RLEN, G, 4, 1, 1, 0, RUMMYTEAK_NO_LIMIT, cell, 15, 0);
+        one_again(r, RLEN, G, 20, 1, 1, 300, RUMMYTEAK_NO_LIMIT, cell, 8, 0);
+    }
+    one_again(s, RLEN, T, 5.5, 0.05, 1, 300, RUMMYTEAK_NO_LIMIT, true, 15, 256);
+    one_again(s, RLEN, T, 5.5, 0.05, 1, 300, RUMMYTEAK_NO_LIMIT, false, 15, 300);
+    /* a list of 300 for the cell: its 257th circle is 15, with the unit of its trial; the list may be longer than the cell's store */
+    EXPECT(rummyteak_march(s, RLEN, T, T, 5.5, 0.05, 0, 1, large, W * 300, RUMMYTEAK_NO_LIMIT, &count, &units, edges, &found) == 15 && count == 300);
+    EXPECT(rummyteak_refine_all_cell(s, RLEN, T, T, store, W * 300, 0, large, W * 300, 300, 256, &count, &units) == 15 && count == 256 && units == 256);
+    EXPECT(same(store, large, W * CELL) && are_nans(store, W * CELL, W * 300));
+    EXPECT(rummyteak_refine_all_cell(s, RLEN, T, T, store, W * 300, 0, large, W * 300, 300, 255, &count, &units) == 14 && count == 256 && units == 255);
+    /* no circle: no unit, without a list and without a store too */
+    for (size_t stated = 0; stated < 3; stated++) {
+        EXPECT(rummyteak_refine_all(s, RLEN, T, T, store, W * 300, stated, NULL, 0, 0, 0, &count, &units) == 0 && count == stated && units == 0);
+        EXPECT(rummyteak_refine_all_cell(s, RLEN, T, T, store, W * 300, stated, large, W * 300, 0, 0, &count, &units) == 0 && count == stated && units == 0);
+    }
+    EXPECT(rummyteak_refine_all(s, RLEN, T, T, NULL, 0, 0, NULL, 0, 0, 0, &count, &units) == 0 && count == 0 && units == 0);
+    EXPECT(rummyteak_refine_all(s, RLEN, T, T, NULL, 0, 0, large, W, 1, 0, &count, &units) == 15 && count == 0 && units == 0);
+    EXPECT(same(store, large, W * CELL) && are_nans(store, W * CELL, W * 300));
+    release(r), release(s), release(large), release(store);
+}
+
+/* What is refused on entry leaves all as it was, the whole list being tested; later, the store keeps what was accepted. */
+static void offers_refused(void)
+{
+    const double far_off[] = {6, -5, 4, 1, -8, 3, 4, -4, 6, -5}, far_circle[W] = {6e28, 0, 1, 0, 0, 2, 0, 20, 8};
+    double *r = copy(R, RLEN), *far_section = copy(far_off, RLEN), *store = rank_of(2), *old = rank_of(2), *list = rank_of(4), *bad = rank_of(3), *big = marked(W * 1025);
+    size_t count = 77;
+    uint32_t units = 77;
+    bad[2 * W + 8] = -1;
+    EXPECT(rummyteak_refine_all(r, RLEN - 1, T, G, store, W * 300, 301, bad, W * 3, 4, 9, &count, &units) == 1);
+    EXPECT(rummyteak_refine_all_cell(NULL, 0, T, G, store, W * 300, 301, bad, W * 3, 4, 9, &count, &units) == 1);
+    EXPECT(rummyteak_refine_all(r, RLEN, T, NAN, store, W * 300, 2, bad, W * 3, 4, 9, &count, &units) == 2);
+    EXPECT(rummyteak_refine_all_cell(r, RLEN, T, NAN, store, W * 300, 2, bad, W * 3, 4, 9, &count, &units) == 2);
+    EXPECT(rummyteak_refine_all(r, RLEN, T, G, store, W * 300, 3, list, W * 3, 3, 9, &count, &units) == 2);
+    EXPECT(rummyteak_refine_all(r, RLEN, T, NAN, store, W * 2, 3, list, W * 3, 4, 9, &count, &units) == 3);
+    EXPECT(rummyteak_refine_all_cell(r, RLEN, NAN, G, store, W * 2, 3, list, W * 3, 4, 9, &count, &units) == 3);
+    EXPECT(rummyteak_refine_all(r, RLEN, G, T, store, W * 2, 3, list, W * 3, 4, 9, &count, &units) == 23);
+    EXPECT(rummyteak_refine_all_cell(r, RLEN, G, T, store, W * 2, 2, list, W * 3, 3, 9, &count, &units) == 23);
+    EXPECT(rummyteak_refine_all(r, RLEN, 2, 2, store, W * 300, 2, list, W * 3, 4, 9, &count, &units) == 4);
+    EXPECT(rummyteak_refine_all(r, RLEN, 2, 2, store, W * 300, 2, list, W * 4 - 1, 4, 9, &count, &units) == 4);
+    EXPECT(rummyteak_refine_all(r, RLEN, 2, 2, store, W * 2, 3, list, W * 3, 3, 9, &count, &units) == 4);
+    EXPECT(rummyteak_refine_all_cell(r, RLEN, 2, 2, store, W * 2, 3, list, W * 3, 3, 9, &count, &units) == 4);
+    EXPECT(rummyteak_refine_all_cell(r, RLEN, T, G, store, W * 300, 2, list, W * 3, SIZE_MAX, 9, &count, &units) == 4);
+    EXPECT(rummyteak_refine_all_cell(r, RLEN, T, G, store, W * 300, SIZE_MAX, list, W * 3, 0, 9, &count, &units) == 2);
+    EXPECT(rummyteak_refine_all(r, RLEN, T, G, store, W * 300, 2, NULL, 0, 1, 9, &count, &units) == 4);
+    EXPECT(rummyteak_refine_all(r, RLEN, 2, 2, store, W * 300, 2, list, W * 3, 3, 9, &count, &units) == 6);
+    EXPECT(rummyteak_refine_all_cell(r, RLEN, 2, 2, store, W * 300, 2, list, W * 3, 3, 9, &count, &units) == 6);
+    for (size_t k = 0; k < 1024; k++)
+        upright(1 + (double)k / 256, big + W * k);
+    fill_with_nans(big, W * 1024, W * 1025);
+    EXPECT(rummyteak_refine_all(r, RLEN, T, G, store, W * 300, 2, big, W * 1025, 1025, 9, &count, &units) == 4);
+    EXPECT(rummyteak_refine_all_cell(r, RLEN, T, G, store, W * 300, 2, big, W * 1025, 1025, 9, &count, &units) == 4);
+    EXPECT(count == 77 && units == 77 && same(store, old, W * 2) && are_nans(store, W * 2, W * 300));
+    EXPECT(rummyteak_refine_all_cell(r, RLEN, T, G, store, W * 300, 0, big, W * 1025, 1024, 256, &count, &units) == 15 && count == 256 && units == 256);
+    EXPECT(same(store, big, W * CELL) && are_nans(store, W * CELL, W * 300));
+    /* 10 to 12 in a trial, and 16 where each trial adds: what was accepted before stays, and no circle behind is offered */
+    for (int k = 0; k < 4; k++) {
+        const double wide = k == 2 ? 1.7e308 : 0, third[W] = {4, 1, 1, 0, -wide, 0, wide, 4, 14}, small[W] = {4, 0.5, 0.5, 4, 0, 4, 1, 4, 14};
+        const double *section = k ? r : far_section;
+        const uint32_t number = k == 3 ? 16 : 10 + (uint32_t)k, taken = k == 3 ? 64 : k ? 2 : 1;
+        const size_t accepted = k == 1 || k == 2 ? 2 : 1;
+        for (int i = 0; i < 4; i++)
+            upright(5 + i, list + W * i);
+        for (int i = 0; i < 4 && !k; i++)
+            memcpy(list + W * i, far_circle, sizeof far_circle);
+        if (k == 1 || k == 2)
+            memcpy(list + W * 2, third, sizeof third);
+        if (k == 3)
+            memcpy(list, small, sizeof small);
+        for (uint32_t limit = taken - 1; limit < taken + 2; limit++) {
+            fill_with_nans(store, 0, W * 300);
+            EXPECT(rummyteak_refine_all(section, RLEN, T, G, store, W * 300, 0, list, W * 4, 4, limit, &count, &units) == (limit < taken ? 14 : number));
+            EXPECT(count == accepted && units == (limit < taken ? limit : taken) && same(store, list, W * accepted) && are_nans(store, W * accepted, W * 300));
+        }
+    }
+    release(r), release(far_section), release(store), release(old), release(list), release(bad), release(big);
+}
+
 /* A store of 300 slots with these circles in front and NaNs behind. */
 static double *store_of(const double *circles, size_t count)
 {
@@ -897,6 +1016,8 @@ int main(void)
     runs();
     cell_refinements();
     cell_marches();
+    offered_again();
+    offers_refused();
     thinnings();
     thinnings_refused();
     lists();

@@ -29,7 +29,7 @@ NAMES = {name[len("orient_") :]: name for name in _arguments if name.startswith(
 
 # What is handed to a function in C: S section, K store, R output, t and g tolerances, x p l a number, a point or vector and a line among the arguments, a b circles there, n the count or
 # place, y yes or no, u the limit. Then where the answer goes: a digit is so many numbers of the output, C a circle; N and B and U are told, in this order. E is the two
-# edges of a crossing, and F whether they were found. Of a split T is two counts, V two yes or no, G two more counts, all told as the table tells a split.
+# edges of a crossing, and F whether they were found. Q is the list that is offered, and m how many of its circles are. Of a split T is two counts, V two yes or no, G two more counts, all told as the table tells a split.
 IN_C = {
     "sqrt": "x 1", "from_points": "S t y R N B", "reversed": "S t R N B", "is_closed": "S t B", "length": "S t 1",
     "at_front": "S t 5 N", "at_back": "S t 5 N", "at_vertex": "S t n 5 N", "at_length": "S t x 5 N", "at_closest_to_point": "S t p 5 N",
@@ -37,6 +37,7 @@ IN_C = {
     "length_along": "S t n x 1", "crossing_line": "S t l 4 E", "joined_crossing": "S t l 4 E",
     "inscribed_from_crossing": "S t g l C", "try_inscribed": "S t g l C E", "inscribed_refined": "S t g a b C B",
     "refine_and_push": "S t g K n a u N U", "march": "S t g l K u N U E F", "extract_circles": "S t g l K u N U",
+    "refine_all": "S t g K n Q m u N U", "refine_all_cell": "S t g K n Q m u N U",
     "refine_and_push_cell": "S t g K n a u N U", "march_cell": "S t g l K u N U E F",
     "thin": "S t g K n u N U",
     "front_and_back": "K n C C", "index_of_tmax": "K n N", "average_spacing": "K n 1", "end_clip_line": "K n 4",
@@ -46,7 +47,7 @@ IN_C = {
     "is_open_at_end": "S t g K n y B", "fit_open_edge": "S t g K n y u 2 N U",
 }
 
-# The same in Python: k is the circles, L a line and P a point as one argument, s the slots, c yes for the cell.
+# The same in Python: k is the circles, q those that are offered, L a line and P a point as one argument, s the slots, c yes for the cell.
 IN_PYTHON = {
     "sqrt": "x", "from_points": "S t y", "reversed": "S t", "is_closed": "S t", "length": "S t",
     "at_front": "S t", "at_back": "S t", "at_vertex": "S t n", "at_length": "S t x", "at_closest_to_point": "S t p",
@@ -54,6 +55,7 @@ IN_PYTHON = {
     "length_along": "S t n x", "crossing_line": "S t L", "joined_crossing": "S t L",
     "inscribed_from_crossing": "S t g L", "try_inscribed": "S t g L", "inscribed_refined": "S t g a b",
     "refine_and_push": "S t g k a u s", "march": "S t g L u s", "extract_circles": "S t g L u s",
+    "refine_all": "S t g k q u s", "refine_all_cell": "S t g k q u s c",
     "refine_and_push_cell": "S t g k a u s c", "march_cell": "S t g L u s c",
     "thin": "S t g k u",
     "front_and_back": "k", "index_of_tmax": "k", "average_spacing": "k", "end_clip_line": "k",
@@ -90,7 +92,8 @@ class Table:
     def __init__(self) -> None:
         self.section, self.args, self.told, self.given = array("d"), [0.0] * 32, [0] * TOLD, ()
         self.store, self.out = (ctypes.c_double * SIZE)(), (ctypes.c_double * SIZE)()
-        self.store_len = self.out_len = 0
+        self.list = (ctypes.c_double * SIZE)()
+        self.store_len = self.out_len = self.list_len = self.offered = 0
         self.store_mark = self.out_mark = 0.0
         self.kept = (bytes(self.out), bytes(self.store))
 
@@ -107,7 +110,9 @@ class Table:
             return [self.section]
         if sign == "k":
             return [[rt.Inscribed(*self.store[rt.WIDTH * i : rt.WIDTH * (i + 1)]) for i in range(place)]]
-        plain = {"t": a[:1], "g": a[1:2], "x": a[2:3], "p": a[2:4], "l": a[2:6], "L": [a[2:6]], "P": [a[2:4], a[4:6]], "n": [place], "y": [yes], "u": [limit]}
+        if sign == "q":
+            return [[rt.Inscribed(*self.list[rt.WIDTH * i : rt.WIDTH * (i + 1)]) for i in range(self.offered)]]
+        plain = {"t": a[:1], "g": a[1:2], "x": a[2:3], "p": a[2:4], "l": a[2:6], "L": [a[2:6]], "P": [a[2:4], a[4:6]], "n": [place], "m": [self.offered], "y": [yes], "u": [limit]}
         plain.update({"a": [self.circle(0)], "b": [self.circle(1)], "s": [self.store_len // rt.WIDTH], "c": [True]})
         return plain[sign]
 
@@ -115,7 +120,8 @@ class Table:
         """Asks in C, and the module where it can be asked the same: its functions state no count, and no output, that doesn't fit."""
         name = NAMES.get(name, name)
         before = bytes(self.store)
-        fits = rt.WIDTH * place <= self.store_len or "K" not in IN_C[name].split()
+        signs = IN_C[name].split()
+        fits = (rt.WIDTH * place <= self.store_len or "K" not in signs) and (rt.WIDTH * self.offered <= self.list_len or "Q" not in signs)
         again = [x for sign in IN_PYTHON[name].split() for x in self.handed(sign, place, yes, limit)] if fits else None
         written = self.ask_in_c(name, place, yes, limit)
         if again is None or (self.told[0] == 4 and ("R" in IN_C[name].split() or not fits)):
@@ -135,8 +141,9 @@ class Table:
         handed, answers, told, edges, found = [], [], [], (ctypes.c_size_t * 2)(), None
         split = {"T": (ctypes.c_size_t * 2)(), "V": (ctypes.c_bool * 2)(), "G": (ctypes.c_size_t * 2)()}
         for sign in IN_C[name].split():
-            if sign in "SKR":
-                numbers, length = {"S": (rt._numbers(self.section), len(self.section)), "K": (self.store, self.store_len), "R": (self.out, self.out_len)}[sign]
+            if sign in "SKRQ":
+                lent = {"S": (rt._numbers(self.section), len(self.section)), "K": (self.store, self.store_len), "R": (self.out, self.out_len), "Q": (self.list, self.list_len)}
+                numbers, length = lent[sign]
                 handed += [numbers, length]
             elif sign in "ab":
                 handed.append((ctypes.c_double * rt.WIDTH)(*self.circle("ab".index(sign))))
@@ -226,6 +233,9 @@ class Table:
     def do_leaves(self, words):
         return bits(self.store) == bits([number(w) for w in words[1:]] + [self.store_mark] * (SIZE - len(words) + 1))
 
+    def do_list(self, words):
+        self.list, self.list_len, self.offered = (ctypes.c_double * SIZE).from_buffer_copy(self.store), self.store_len, whole(words, 1)
+
     def do_keep(self, _=None):
         self.kept = (bytes(self.out), bytes(self.store))
 
@@ -241,7 +251,7 @@ class Table:
     def do_bad(self, words):
         self.do_keep()
         for at in range(whole(words, 1), whole(words, 2)):
-            held, place = (self.args, at) if at < 100 else (self.section, at - 100) if at < 16500 else (self.store, at - 16500)
+            held, place = (self.args, at) if at < 100 else (self.section, at - 100) if at < 16500 else (self.store, at - 16500) if at < 30000 else (self.list, at - 30000)
             for value in BAD:
                 old, held[place] = held[place], value
                 self.ask(words[4], whole(words, 5), whole(words, 6), 9)
@@ -364,7 +374,7 @@ class Cases(unittest.TestCase):
             questions = {"ask": words[1:2], "bad": words[4:5], "limits": words[2:3], "fits": words[2:3], "thins": words[2:3], "agree": words[2:4], "slots": words[2:5:2]}.get(words[0], [])
             if questions or words[0] in LEFT_OUT:
                 passed = bool(LEFT_OUT.intersection([words[0], *questions]))
-            if passed and words[0] not in ("section", "row", "args", "store", "room", "rank", "copies"):
+            if passed and words[0] not in ("section", "row", "args", "store", "room", "rank", "copies", "list"):
                 continue
             asked.update(NAMES.get(q, q) for q in questions)
             lines += 1

@@ -32,7 +32,7 @@ sys.path.insert(0, str(ROOT / "python"))
 
 import rummyteak as rt  # noqa: E402
 from rummyteak._library import call  # noqa: E402
-from rummyteak.blade import Options, _Steps  # noqa: E402
+from rummyteak.blade import Options, _Steps, worked_out  # noqa: E402
 from rummyteak.files import Reading, Unreadable, read  # noqa: E402
 from rummyteak.outputs import put  # noqa: E402
 from rummyteak.report import ADVICE, table  # noqa: E402
@@ -394,6 +394,69 @@ class Rows(unittest.TestCase):
         self.assertEqual(rt.thin(R, T, G, made[:1] * 1024).circles, made[:1] * 2)
 
 
+    def test_lists_offered_again(self):
+        """The circles of one march, whichever way it ended, are the same list for one unit fewer; within a smaller limit its first circles."""
+        strip = [0, 0, 8, 0, 8, 0.1, 0, 0.1, 0, 0]
+        exact = lambda circles: [list(map(bits, c)) for c in circles]  # noqa: E731
+        for section, tol, line, limit, slots, cell, number, found in (
+            (R, G, (4, 1, 0, 1), rt.NO_LIMIT, None, False, 0, 52), (R, G, (4, 1, 0, 1), rt.NO_LIMIT, None, True, 0, 52), (R, G, (4, 1, 0, 1), 30, None, False, 14, 16), (R, G, (4, 1, 0, 1), 0, None, True, 14, 1),
+            (R, G, (4, 1, 0, 1), rt.NO_LIMIT, 10, False, 15, 10), (R, G, (4, 1, 0, 1), rt.NO_LIMIT, 0, False, 15, 0), (R, G, (20, 1, 0, 1), rt.NO_LIMIT, None, False, 8, 0),
+            ([-3, 3, 0, -4, 1, -2], T, (2, -3, 2, -2), rt.NO_LIMIT, None, False, 13, 1), (strip, T, (5.5, 0.05, 0, 1), rt.NO_LIMIT, None, True, 15, 256), (strip, T, (5.5, 0.05, 0, 1), rt.NO_LIMIT, None, False, 0, 413),
+        ):
+            march = rt.march(section, T, tol, line, limit, slots, cell)
+            self.assertEqual((march.number, len(march.circles)), (number, found))
+            for within in {*range(0, found, 1 + found // 60), max(found - 2, 0), max(found - 1, 0), found, rt.NO_LIMIT}:
+                run = rt.refine_all(section, T, tol, (), march.circles, within, slots, cell)
+                enough = within + 1 >= found
+                self.assertEqual((run.number, run.units, len(run.circles)), (0, max(found - 1, 0), found) if enough else (14, within, within + 1))
+                self.assertEqual(exact(run.circles), exact(march.circles[: len(run.circles)]))
+        large = rt.march(strip, T, T, (5.5, 0.05, 0, 1)).circles
+        for slots in (None, 256, 300, 2000):
+            self.assertEqual(rt.refine_all(strip, T, T, (), large, slots=slots, cell=True), rt.Run(15, large[:256], 256))
+        thinned = rt.thin(strip, T, T, large).circles
+        self.assertEqual(rt.refine_all(strip, T, T, (), thinned), rt.Run(0, thinned, len(thinned) - 1))
+
+    def test_lists_offered(self):
+        """What a refinement of each circle gives, one behind the other."""
+        for section, tol, line, found, more in (([2, -4, -2, 0, -2, -4, 2, -4], 0.05, (0, -3, -1, 1), 48, (15, 1024, 2038)), ([0, -1, -4, -1, 2, 2, 4, 1, 0, -1], G, (1, -4, 0, 2), 148, (0, 149, 149))):
+            circles = rt.extract_circles(section, T, tol, line).circles
+            run = rt.refine_all(section, T, tol, (), circles)
+            self.assertEqual((len(circles), run.number, len(run.circles), run.units), (found, *more), "of an extraction a list is not promised to stay")
+            by_one, units, number = (), 0, 0
+            for c in circles:
+                one = rt.refine_and_push(section, T, tol, by_one, c)
+                by_one, units, number = one.circles, units + one.units, one.number
+                if number:
+                    break
+            self.assertEqual(run, rt.Run(number, by_one, units))
+            for limit in (0, 5, 20, units - 1, units):
+                spent = rt.refine_all(section, T, tol, (), circles, limit)
+                self.assertEqual((spent.number, spent.circles, spent.units), (number if limit == units else 14, by_one[: len(spent.circles)], limit))
+        self.assertEqual(rt.refine_all(R, T, G, PAIR[:1], PAIR[1:]), rt.refine_and_push(R, T, G, PAIR[:1], PAIR[1]))
+        for some in ((), PAIR):
+            self.assertEqual(rt.refine_all(R, T, G, some, (), 0), rt.Run(0, some, 0))
+            self.assertEqual(rt.refine_all(R, T, G, some, (), 0, 0, True), rt.Run(0, some, 0))
+        nan, made = float("nan"), self.MADE
+        flat = made[0]._replace(p0x=1, p0y=0, p1x=1, p1y=0)
+        wide = made[0]._replace(p0y=-1.7e308, p1y=1.7e308)
+        small = rt.Inscribed(4, 0.5, 0.5, 4, 0, 4, 1, 4, 14)
+        far_off, far = [6, -5, 4, 1, -8, 3, 4, -4, 6, -5], rt.Inscribed(6e28, 0, 1, 0, 0, 2, 0, 20, 8)
+        for number, section, offered, accepted, units in ((10, far_off, (far, far), 1, 1), (11, R, made[:2] + (flat, made[2]), 2, 2), (12, R, made[:2] + (wide, made[2]), 2, 2), (16, R, (small, made[4]), 1, 64)):
+            for cell in False, True:
+                self.assertEqual(rt.refine_all(section, T, G, (), offered, cell=cell), rt.Run(number, offered[:accepted], units))
+                self.assertEqual(rt.refine_all(section, T, G, (), offered, units - 1, cell=cell), rt.Run(14, offered[:accepted], units - 1))
+        bad = made[:2] + (made[2]._replace(r=-1),)
+        for number, section, section_tol, tol, circles, offered in (
+            (1, R[:3], T, G, bad, bad), (2, R, T, nan, made, bad), (2, R, T, nan, bad, made), (3, R, T, nan, made, made), (23, R, G, T, made[:1] * 1025, made), (23, R, G, T, made, made[:1] * 1025),
+            (4, R, 2, 2, made[:1] * 1025, made), (4, R, 2, 2, made, made[:1] * 1025), (4, R, T, G, made, made[:1] * 1024 + bad[2:]), (6, R, 2, 2, made, made),
+        ):
+            for cell in False, True:
+                self.refused(number, lambda: rt.refine_all(section, section_tol, tol, circles, offered, cell=cell))
+        self.refused(4, lambda: rt.refine_all(R, T, G, made[:1] * 257, (), cell=True))
+        self.assertEqual(rt.refine_all(R, T, G, made[:1] * 257, ()).circles, made[:1] * 257)
+        self.assertEqual(rt.refine_all(R, T, G, (), made[:1] * 1024, cell=True), rt.Run(15, made[:1] * 256, 256))
+
+
 class Types(unittest.TestCase):
     """What goes in: anything that holds numbers, and a clear word about what doesn't."""
 
@@ -454,6 +517,8 @@ class Types(unittest.TestCase):
             (ValueError, rt.index_of_tmax, [(4, 1, 1)]),
             (ValueError, rt.thin, R, T, G, [(4, 1, 1)]),
             (ValueError, rt.thin, R, T, G, PAIR, -1),
+            (ValueError, rt.refine_all, R, T, G, (), [(4, 1, 1)]),
+            (ValueError, rt.refine_all, R, T, G, (), PAIR, -1),
             (ValueError, rt.make_camber_curve, (0, 1, 2), (8, 1), PAIR, T),
             (TypeError, rt.shuffle, [0] * 8),
             (ValueError, rt.transpose_words, [0] * 7),
@@ -692,7 +757,7 @@ class Header(unittest.TestCase):
         self.assertEqual(set(re.findall(r"uint32_t rummyteak_(\w+)\(", self.header)), exports)
         self.assertEqual(set(rt._library._arguments), exports)
         named = {re.sub("_cell$", "", name) for name in exports}
-        self.assertEqual(len(exports - named), 2, "an entry for the cell is the module's function with cell=True")
+        self.assertEqual(len(exports - named), 3, "an entry for the cell is the module's function with cell=True")
         self.assertLessEqual(named, set(rt.__all__))
         called = (ROOT / "tests" / "interface.c").read_text(encoding="utf-8")
         for name in exports:
@@ -958,6 +1023,11 @@ class Command(unittest.TestCase):
             ("examples/open.dat", "--march", "--fwd", "1", "0"), ("examples/open.dat", "--march", "--airflow", "1", "0"), ("examples/open.dat", "--march", "--curvature"),
             ("examples/open.dat", "--march", "--upper", "0", "1"), ("examples/open.dat", "--march", "--lower", "0", "1"), ("examples/open.dat", "--march", "--end", "back"),
             ("examples/open.dat", "--march", "--cell", "--end", "front"),
+            ("examples/open.dat", "--from", "a", "--march"), ("examples/open.dat", "--from", "a", "--line", "4", "1", "0", "1"), ("examples/open.dat", "--from", "a", "--fwd", "1", "0"),
+            ("examples/open.dat", "--from", "a", "--airflow", "1", "0"), ("examples/open.dat", "--from", "a", "--curvature"), ("examples/open.dat", "--from", "a", "--upper", "0", "1"),
+            ("examples/open.dat", "--from", "a", "--lower", "0", "1"), ("examples/open.dat", "--from", "a", "--end", "back"), ("examples/open.dat", "--from", "a", "--cell", "--slots", "257"),
+            ("examples/open.dat", "examples/thick.dat", "--from", "a"), ("-", "--from", "-"), ("-", "--from", "/dev/stdin"), ("examples/open.dat", "--from", "a", "--csv", "a"),
+            ("examples/open.dat", "--from", "a", "--record", "./a"),
         ):
             with self.subTest(args=args):
                 done = self.run_command(*args)
@@ -1048,7 +1118,7 @@ class Command(unittest.TestCase):
                 titles = [t.text for t in ElementTree.fromstring(drawn).iter("{http://www.w3.org/2000/svg}title")]
                 for c in told["dropped"]:
                     self.assertIn("dropped: " + ", ".join(f"{n} {x!r}" for n, x in zip(told["circle"], c)), titles)
-                for words in ("3 inscribed circles of 52, kept by thinning, 102 units, one march" + (", cell" if cell else ""), "those that thinning dropped, 50 units"):
+                for words in ("3 of 52 circles kept, 102 units, one march" + (", cell" if cell else ""), "those that thinning dropped, 50 units"):
                     self.assertIn(words, drawn)
         plain = json.loads(self.run_command("examples/open.dat", "--json", "-").stdout)
         self.assertEqual([plain[k] for k in ("dropped", "thin_units", "thickness_of_all", "camber_length_of_all")], [None] * 4)
@@ -1070,6 +1140,70 @@ class Command(unittest.TestCase):
         steps.take(steps.thinning)
         self.assertEqual((steps.blade.number, steps.blade.step, steps.blade.circles, steps.blade.dropped, steps.blade.thin_units), (14, "thinning", self.made, None, 3))
         self.assertRegex(table("x", steps.blade), r"(?m)^thinned +not finished, all 6 kept, 3 units$")
+
+    def test_from(self):
+        """Circles of a file, a CSV or a record, offered to an empty list in place of finding any."""
+        line = ("--line", "4", "1", "0", "1")
+        run = rt.march(R, T, G, (4, 1, 0, 1))
+        with tempfile.TemporaryDirectory() as name:
+            folder = Path(name)
+            section = str(folder / "r.dat")
+            Path(section).write_text(self.TEXT)
+            files = [str(folder / n) for n in ("a.csv", "a.bin", "b.csv", "b.bin", "b.json", "b.svg")]
+            csv, record = files[:2]
+            self.assertEqual(self.run_command(section, *line, "--march", "--csv", csv, "--record", record).returncode, 0)
+            for source in files[:2]:
+                for cell, slots in ((), 1024), (("--cell",), 256):
+                    done = self.run_command(section, "--from", source, *cell, "--csv", files[2], "--record", files[3], "--json", files[4], "--svg", files[5])
+                    self.assertEqual(done.returncode, 0, done.stderr)
+                    self.assertIn(f"\ncircles from        {source}, 52 offered; {'the entry for the cell, ' if cell else ''}{slots} slots\ncircles             52, 51 units\n", done.stdout)
+                    self.assertNotIn("reference line", done.stdout)
+                    self.assertEqual([Path(f).read_bytes() for f in files[2:4]], [Path(f).read_bytes() for f in files[:2]], "the same list, bit for bit")
+                    told = json.loads(Path(files[4]).read_text())
+                    self.assertEqual((told["offered"], told["units"], told["options"]["from_file"], told["options"]["cell"]), (52, 51, source, bool(cell)))
+                    self.assertEqual([told[k] for k in ("line", "crossing", "edges", "turned", "swapped", "edge")], [None] * 6)
+                    self.assertEqual(told["camber"], list(rt.camber_curve(run.circles, T).numbers))
+                    self.assertIn("52 inscribed circles, 51 units, 52 offered" + (", cell" if cell else ""), Path(files[5]).read_text())
+            # from standard input; spent, full, refused; thinned
+            given = subprocess.run([sys.executable, "-m", "rummyteak", section, "--from", "-", "--csv", "-"], cwd=ROOT, env=dict(os.environ, PYTHONPATH=str(ROOT / "python")), input=Path(record).read_bytes(), capture_output=True)
+            self.assertEqual((given.returncode, given.stdout), (0, Path(csv).read_bytes()))
+            for more, number, count, units, words in (
+                (("--limit", "10"), 14, 11, 10, "larger --limit"), (("--slots", "5"), 15, 5, 5, "more --slots"), (("--cell", "--slots", "5"), 15, 5, 5, "up to 256"), (("--section-tol", "0.02"), 23, 0, 0, "--tol"), (("--thin-circles",), 0, 52, 51, ""),
+            ):
+                done = self.run_command(section, "--from", csv, *more)
+                self.assertEqual(done.returncode, number)
+                self.assertRegex(done.stdout, rf"(?m)^circles +{count}, {units} units$")
+                self.assertIn(words, done.stderr)
+            self.assertIn("3 of 52 kept, 50 units", done.stdout)
+            rows = Path(csv).read_text().splitlines()
+            for text, number, words in (
+                ("\n".join([rows[0], *rows[1:3], rows[3].replace(rows[3].split(",")[2], "-1", 1)]), 2, "wrong numbers in the circles"), ("\n".join([rows[0], rows[1].replace(rows[1].split(",")[0], "nan", 1)]), 2, "wrong numbers"),
+                ("\n".join([rows[0], *rows[1:2] * 1025]), 4, "at most 1024 circles"), (rows[0], 0, ""), ("\r\n".join(rows[:3]) + "\r\n\r\n", 0, ""), ("\ufeff" + "\n".join(rows), 0, ""),
+                (rows[0] + "\n1.0,1.0,1.0,1.0,0.0,1.0,0.0,1,1\n2,1,1,2,0,2,2,2,16\n", 11, "contacts are one point"),
+            ):
+                Path(csv).write_text(text, newline="")
+                done = self.run_command(section, "--from", csv)
+                self.assertEqual((done.returncode, words in done.stderr), (number, True), done.stderr)
+            self.assertEqual(rt.refine_all(R, T, G, (), (rt.Inscribed(*map(float, rows[1].split(","))),)).circles, run.circles[:1])
+            # what is no such file is 66, with its line
+            whole = Path(record).read_bytes()
+            for content, words in (
+                (rows[0] + "\n" + rows[1] + "\n" + rows[2][:-4] + "mm\n", "line 3"), (rows[0] + "\n" + rows[1] + ",1\n", "line 2"), (rows[0] + "\n\n" + rows[1] + "\n", "line 2"), (rows[0] + "\n" + rows[1].replace(",", ";") + "\n", "line 2"),
+                ("\n".join(rows[1:]), "line 1"), (self.TEXT, "line 1 is not cx,cy,"), ("", "line 1"), (rows[0].replace("cx", "x"), "line 1"), (whole[:-1], "24:"), (whole + b"\0", "24:"), (b"\xff\xff", "4:"), (whole[:3] + b"\x80" + whole[4:], "25:"),
+            ):
+                (folder / "x").write_bytes(content if isinstance(content, bytes) else content.encode())
+                done = self.run_command(section, "--from", str(folder / "x"))
+                self.assertEqual((done.returncode, done.stdout), (66, ""))
+                self.assertIn(f"{folder / 'x'}: ", done.stderr)
+                self.assertIn(words, done.stderr)
+            for missing in (str(folder / "nothing"), str(folder)):
+                done = self.run_command(section, "--from", missing)
+                self.assertEqual((done.returncode, done.stdout), (66, ""))
+                self.assertIn(missing, done.stderr)
+        self.assertEqual(self.run_command("examples/open.dat", "--from", "-", given="\0\0").returncode, 0, "a record of no circles")
+        for options, offered in ((Options(from_file="a"), None), (Options(), PAIR)):
+            with self.assertRaises(ValueError):
+                worked_out(R, options, offered)
 
     def test_cell(self):
         """15 says what to do; a spent march keeps its circles, and so does a record of them."""

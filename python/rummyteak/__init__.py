@@ -1,7 +1,7 @@
 """Rummyteak: a measured blade section into inscribed circles, a camber line and an open-edge point.
 
-Each function calls the proved library. What it refuses is an exception, Refused, with the number and its words. A run (refine_and_push, march,
-extract_circles, fit_open_edge, thin) that began returns its circles whichever way it ended.
+Each function calls the proved library. What it refuses is an exception, Refused, with the number and its words. A run (refine_and_push, refine_all,
+march, extract_circles, fit_open_edge, thin) that began returns its circles whichever way it ended.
 
 Points, and a section, may be a list of pairs, a flat list of numbers, a Curve2, or anything with the buffer protocol, flat or of pairs. A buffer of
 contiguous float64 numbers (an array.array('d'), a numpy array) is read where it stands, and copied only where it is read-only; another one is converted.
@@ -27,7 +27,7 @@ __all__ = [
     "Refused", "Curve2", "Piece", "CurveStation2", "Line2", "Crossing", "Inscribed", "CircleOnLine", "Run", "March", "Fit", "CELL_SLOTS", "NO_LIMIT", "SLOTS", "WIDTH", "WORDS",
     "sqrt", "from_points", "reversed", "is_closed", "length", "at_front", "at_back", "at_vertex", "at_length", "at_closest_to_point",
     "length_along", "between_lengths", "split_open_at_length", "split_closed_at_lengths", "crossing_line", "joined_crossing", "inscribed_from_crossing", "try_inscribed", "inscribed_refined",
-    "refine_and_push", "march", "extract_circles", "thin", "front_and_back", "index_of_tmax", "average_spacing", "end_clip_line",
+    "refine_and_push", "refine_all", "march", "extract_circles", "thin", "front_and_back", "index_of_tmax", "average_spacing", "end_clip_line",
     "reverse_points", "reverse_order_only", "reverse_order", "circles_from", "camber_curve", "make_camber_curve",
     "orient_tmax_fwd", "orient_airflow", "orient_fwd", "orient_curvature", "orient_upper", "orient_lower", "is_open_at_end", "fit_open_edge",
     "write_record", "read_record", "shuffle", "unshuffle", "transpose_words",
@@ -476,6 +476,25 @@ def refine_and_push(
     name, size = _entry("refine_and_push", cell, slots)
     store = _stored(circles, size)
     return _run(name, store, p, len(p), section_tol, tol, store, len(store), len(circles), _stored([circle]), limit)
+
+
+def refine_all(
+    section: Points, section_tol: float, tol: float, circles: Circles, offered: Circles, limit: int = NO_LIMIT, slots: Optional[int] = None, cell: bool = False
+) -> Run:
+    """The circles of a list, `offered`, offered in order to another, `circles`, each refined until none waits before the next is offered, within one limit of
+    units over all.
+
+    Store, `slots` and `cell` are as in `refine_and_push`; the list that is offered may have up to SLOTS circles with `cell` too, and more are refused with 4.
+    All of it is tested before its first circle is offered. The run has the circles of all refinements together, and their units. Where it is spent or refused
+    it has those that were accepted before, and no circle behind is offered.
+
+    The circles of one march, whichever way it ended, offered to an empty list with the march's section, tolerances, `slots` and `cell`, and a limit of at least
+    one unit fewer than there are circles, are the same list, bit for bit, for one unit fewer than there are circles. An empty list takes no unit. Of the
+    circles of an extraction that is not promised: some may be added where its halves meet, and in its first half, which was turned."""
+    p = _numbers(section)
+    name, size = _entry("refine_all", cell, slots)
+    store, given = _stored(circles, size), _stored(offered)
+    return _run(name, store, p, len(p), section_tol, tol, store, len(store), len(circles), given, len(given), len(offered), limit)
 
 
 def march(

@@ -16,7 +16,8 @@ from . import CELL_SLOTS, NO_LIMIT, SLOTS, WORDS
 from ._library import NoLibrary, load
 from .blade import Options, worked_out
 from .files import FORMATS, Reading, Unreadable, read
-from .outputs import is_standard_output, put, same_file, say, tell
+from .lists import read_circles
+from .outputs import is_standard_input, is_standard_output, put, same_file, say, tell
 from .picture import svg
 from .report import FAULT, NO_INPUT, NO_OUTPUT, WRONG_CALL, as_csv, as_json, as_points, as_record, message, said, table, told
 
@@ -79,7 +80,8 @@ def parser() -> argparse.ArgumentParser:
     words.add_argument("--limit", type=_whole(NO_LIMIT), default=default.limit, help="units at most in each run: the circles, the open edge, and thinning (no limit)")
     words.add_argument("--slots", type=_whole(SLOTS), help=f"circles at most, up to {SLOTS}, with --cell up to {CELL_SLOTS} (as many as that)")
     words.add_argument("--march", action="store_true", help="one march: only the circles to the right of the reference line as it points, as they were marched, with no orientation and no open edge")
-    words.add_argument("--cell", action="store_true", help=f"with --march: by the entry for the cell, whose store holds {CELL_SLOTS} circles")
+    words.add_argument("--cell", action="store_true", help=f"with --march or --from: by the entry for the cell, whose store holds {CELL_SLOTS} circles")
+    words.add_argument("--from", dest="from_file", metavar="CIRCLES", help="circles of a file, a CSV or a hand-over record as this command writes them, in place of finding any: they are offered in order to an empty list, each refined until none waits, and stay in their order, with no orientation and no open edge; - is standard input")
     words.add_argument("--thin-circles", action="store_true", help="thin the circles, behind all other runs: from the front, drop each one between the first and the last where the trial between the last kept one and the one behind adds none")
     words.add_argument("--points", metavar="FILE", help="write the points of the section, cleaned and cut, as x y lines; - is standard output")
     words.add_argument("--csv", metavar="FILE", help="write the circles as CSV; - is standard output")
@@ -102,7 +104,7 @@ def options_of(args: argparse.Namespace) -> Options:
         parser().error(f"argument --slots: {slots} is not within 0 to {most}, which is what the entry for the cell holds")
     try:
         return Options(
-            args.section_tol, args.tol, args.force_closed, pair(args.between), line, pair(args.fwd), pair(args.airflow), args.curvature, pair(args.upper), pair(args.lower), args.end, args.limit, slots, args.march, args.cell, args.thin_circles
+            args.section_tol, args.tol, args.force_closed, pair(args.between), line, pair(args.fwd), pair(args.airflow), args.curvature, pair(args.upper), pair(args.lower), args.end, args.limit, slots, args.march, args.cell, args.thin_circles, args.from_file
         )
     except ValueError as error:
         return parser().error(str(error))
@@ -151,11 +153,12 @@ def _one(name: str, options: Options, reading: Reading, args: argparse.Namespace
     notes: List[str] = []
     try:
         points = read(name, reading, notes.append)
+        offered = None if options.from_file is None else read_circles(options.from_file)
     except Unreadable as error:
         say(f"rummyteak: {error}\n")
         return NO_INPUT
     say(said(notes))
-    blade = worked_out(points, options)
+    blade = worked_out(points, options, offered)
     wanted: List[Tuple[Optional[str], Callable[[], str]]] = [
         (args.points, lambda: as_points(blade)),
         (args.csv, lambda: as_csv(blade)),
@@ -186,13 +189,20 @@ def _wrong(args: argparse.Namespace) -> str:
     names = ["-" if is_standard_output(name) else name for _, name in outputs]
     if outputs and len(args.files) > 1:
         return "--points, --csv, --record, --json and --svg go with one file"
+    circles = [] if args.from_file is None else [args.from_file]
+    if circles and len(args.files) > 1:
+        return "--from goes with one file"
+    if "" in circles:
+        return "--from has no name"
+    if circles and is_standard_input(circles[0]) and is_standard_input(args.files[0]):
+        return "standard input can't be the section and the circles"
     if args.record is not None and is_standard_output(args.record):
         return "--record goes to a file, not to standard output"
     if "" in names:
         return "an output has no name"
     if len(set(names)) < len(names):
         return "two outputs have the same name"
-    return same_file(args.files, outputs)
+    return same_file([*args.files, *circles], outputs)
 
 
 def _run(arguments: Optional[List[str]]) -> int:

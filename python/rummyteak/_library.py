@@ -88,6 +88,8 @@ _arguments = {
     "inscribed_refined": [*_slice, d, d, P, P, P, B],
     "refine_and_push": [*_slice, d, d, *_slice, n, P, u, N, U],
     "refine_and_push_cell": [*_slice, d, d, *_slice, n, P, u, N, U],
+    "refine_all": [*_slice, d, d, *_slice, n, *_slice, n, u, N, U],
+    "refine_all_cell": [*_slice, d, d, *_slice, n, *_slice, n, u, N, U],
     "march": [*_slice, d, d, *_line, *_slice, u, N, U, N, B],
     "march_cell": [*_slice, d, d, *_line, *_slice, u, N, U, N, B],
     "extract_circles": [*_slice, d, d, *_line, *_slice, u, N, U],

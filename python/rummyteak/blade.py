@@ -1,5 +1,6 @@
 """One section through all steps: cleaned, cut where a stretch of it is wanted, its circles found, oriented, its open edge fitted, its circles thinned where that is wanted, its camber line drawn.
 Where one march is wanted, its circles lie on one side of the reference line and stay as the march left them: no orientation, no open edge.
+Where circles come from a file, they are offered in its order to an empty list in place of finding any, and stay in that order: no reference line, no orientation, no open edge.
 
 No rule stands here but which call follows which, and where the reference line is without one: across the middle of the longest chord."""
 
@@ -21,7 +22,8 @@ class Options:
     """Every argument of the calls. Without a line it is across the middle of the longest chord; without `fwd` and `airflow` the greatest radius orients;
     `end` is auto, front, back or none. With `march` the circles are those of one march, to the right of the line as it points, and with `cell` too of one
     by the entry for the cell. What only an extraction has doesn't go with a march, nor `cell` without one: that is a ValueError. With `thin_circles` the
-    circles are thinned behind all other runs, in the order that they have then."""
+    circles are thinned behind all other runs, in the order that they have then. With `from_file` the circles are those of a file, the name of which it is; they
+    are offered to an empty list, with `cell` by the entry for the cell. A line, and what a march doesn't go with, don't go with that: a ValueError too."""
 
     section_tol: float = 0.001
     tol: float = 0.01
@@ -39,12 +41,21 @@ class Options:
     march: bool = False
     cell: bool = False
     thin_circles: bool = False
+    from_file: Optional[str] = None
 
     def __post_init__(self) -> None:
-        if self.cell and not self.march:
-            raise ValueError("an extraction has no entry for the cell: cell goes with march")
-        if self.march and (self.fwd or self.airflow or self.curvature or self.upper or self.lower or self.end in ("front", "back")):
+        is_turned = bool(self.fwd or self.airflow or self.curvature or self.upper or self.lower or self.end in ("front", "back"))
+        if self.cell and not self.keeps_order:
+            raise ValueError("an extraction has no entry for the cell: cell goes with march or from")
+        if self.march and is_turned:
             raise ValueError("one march gives one side, as it was marched: fwd, airflow, curvature, upper, lower, and an end that is fitted, don't go with march")
+        if self.from_file is not None and (is_turned or self.march or self.line is not None):
+            raise ValueError("circles from a file stay in its order, and none are sought: march, line, fwd, airflow, curvature, upper, lower, and an end that is fitted, don't go with from")
+
+    @property
+    def keeps_order(self) -> bool:
+        """Whether the circles stay in the order in which they were marched or handed in."""
+        return self.march or self.from_file is not None
 
     @property
     def held(self) -> int:
@@ -62,6 +73,8 @@ class Blade:
     march: bool = False
     cell: bool = False
     slots: int = rt.SLOTS
+    from_file: Optional[str] = None
+    offered: Optional[int] = None
     curve: Optional[rt.Curve2] = None
     stretch: Optional[rt.Piece] = None
     line: Optional[rt.Line2] = None
@@ -84,8 +97,11 @@ class Blade:
 
     @property
     def run(self) -> str:
-        """Which run gave the circles, in words; empty where it is an extraction."""
-        return f"one march, to the right of the line as it points; {'the entry for the cell, ' if self.cell else ''}{self.slots} slots" if self.march else ""
+        """Which run, or which file, gave the circles, in words; empty where it is an extraction."""
+        entry = f"{'the entry for the cell, ' if self.cell else ''}{self.slots} slots"
+        if self.from_file is not None:
+            return f"{self.from_file}, {self.offered} offered; {entry}"
+        return f"one march, to the right of the line as it points; {entry}" if self.march else ""
 
     @property
     def found(self) -> int:
@@ -151,9 +167,13 @@ def _without(circles: Sequence[rt.Inscribed], kept: Sequence[rt.Inscribed]) -> T
 class _Steps:
     """The steps in order. Each raises Refused, or returns the number that its run ended with."""
 
-    def __init__(self, points: Any, options: Options) -> None:
-        self.points, self.options = rt._numbers(points), options
-        self.blade = Blade(points=len(self.points) // 2, march=options.march, cell=options.cell, slots=options.held)
+    def __init__(self, points: Any, options: Options, offered: Optional[Sequence[rt.Inscribed]] = None) -> None:
+        if (options.from_file is None) != (offered is None):
+            raise ValueError("the circles that are offered are those of the file that the options name")
+        self.points, self.options, self.offered = rt._numbers(points), options, tuple(offered or ())
+        self.blade = Blade(points=len(self.points) // 2, march=options.march, cell=options.cell, slots=options.held, from_file=options.from_file)
+        if options.from_file is not None:
+            self.blade.offered = len(self.offered)
 
     def cleaning(self) -> int:
         self.blade.curve = rt.from_points(self.points, self.options.section_tol, self.options.force_closed)
@@ -169,6 +189,10 @@ class _Steps:
         blade, o = self.blade, self.options
         section = blade.section
         assert section is not None
+        if o.from_file is not None:
+            again = rt.refine_all(section, o.section_tol, o.tol, (), self.offered, o.limit, o.held, o.cell)
+            blade.circles, blade.units = again.circles, again.units
+            return again.number
         blade.line_given = o.line is not None
         blade.line = middle_line(section) if o.line is None else rt.Line2(*o.line)
         run: rt.Run
@@ -253,10 +277,10 @@ class _Steps:
             self.blade.number, self.blade.step = number, step.__name__.replace("_", " ")
 
 
-def worked_out(points: Any, options: Options) -> Blade:
-    """All that is to be had of a section; its points are whatever the module takes as points."""
-    steps = _Steps(points, options)
-    whole = () if options.march else (steps.orientation, steps.open_edge)
+def worked_out(points: Any, options: Options, offered: Optional[Sequence[rt.Inscribed]] = None) -> Blade:
+    """All that is to be had of a section; its points are whatever the module takes as points. `offered` are the circles of the file that the options name, where they name one."""
+    steps = _Steps(points, options, offered)
+    whole = () if options.keeps_order else (steps.orientation, steps.open_edge)
     for step in (steps.cleaning, steps.stretch, steps.circles, *whole, steps.thinning):
         if not steps.blade.number:
             steps.take(step)

@@ -28,6 +28,11 @@ def is_standard_output(name: str) -> bool:
     return name == "-" or _open_already(name) == 1
 
 
+def is_standard_input(name: str) -> bool:
+    """Whether an input is standard input, by whatever name."""
+    return name == "-" or _open_already(name) == 0
+
+
 def _file(name: str, standard: int) -> Any:
     """What is the same for two names of one file, through links too: device and number of one that is there, the place of one that is not yet; None for what is no file, as a terminal or a pipe. `-` is
     what is open under the number `standard`."""
@@ -41,7 +46,7 @@ def _file(name: str, standard: int) -> Any:
 
 def same_file(inputs: Sequence[str], outputs: Sequence[Tuple[str, str]]) -> str:
     """Which two are the same file, in words; empty where none are. An output is the option's name and the file's. What goes to no file goes to standard output."""
-    there = [("the input", _file(name, 0)) for name in inputs]
+    there = [("an input" if len(inputs) > 1 else "the input", _file(name, 0)) for name in inputs]
     places = [("standard output", _file("-", 1))] + [(option, _file(name, 1)) for option, name in outputs if not is_standard_output(name)]
     for k, (option, file) in enumerate(places):
         for other, same in [*there, *places[:k]]:

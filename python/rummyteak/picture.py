@@ -134,8 +134,8 @@ def _legend(blade: Blade) -> List[Tuple[str, str]]:
     if blade.crossing is not None:
         rows.append((f'<path d="M-16,0H16" {_stroke(HIT, 5)}/>', "the edges that it crosses, {} and {}".format(*blade.crossing.edges)))
     if blade.circles:
-        found = f" of {blade.found}, kept by thinning" if blade.dropped is not None else ""
-        rows.append((ring(CIRCLE, 1.2), f"{len(blade.circles)} inscribed circles{found}, {blade.units} units" + (", one march" if blade.march else "") + (", cell" if blade.cell else "")))
+        circles = "inscribed circles" if blade.dropped is None else f"of {blade.found} circles kept"
+        rows.append((ring(CIRCLE, 1.2), f"{len(blade.circles)} {circles}, {blade.units} units" + (", one march" if blade.march else "") + (f", {blade.offered} offered" if blade.offered is not None else "") + (", cell" if blade.cell else "")))
         rows.append((_dot((-7, 0), 3.5, P0) + _dot((7, 0), 3.5, P1), "their contacts, p0 and p1"))
         if blade.dropped:
             rows.append((ring(DROPPED, 1.2), f"those that thinning dropped, {blade.thin_units} units"))

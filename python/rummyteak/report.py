@@ -49,6 +49,17 @@ ADVICE = {
 CELL_FULL = (f"hand in more --slots, up to {CELL_SLOTS}, or a larger --tol", f"hand in a larger --tol, or leave out --cell, by which there are {CELL_SLOTS} slots and not {SLOTS}")
 
 
+# What to try where the circles of a file are refused.
+FROM_FILE = {
+    2: "look for wrong numbers in the circles of the file",
+    4: f"hand in a file of at most {SLOTS} circles",
+    10: "hand in circles of this section, or a larger --tol",
+    11: "look for a circle whose contacts are one point, and whether the circles are of this section",
+    12: "look for numbers of very different sizes, and whether the circles are of this section",
+    16: "hand in circles of this section, or a larger --tol",
+}
+
+
 def table(name: str, blade: Blade) -> str:
     """The table that a person reads."""
     rows: List[Tuple[str, str]] = [("section", name)]
@@ -62,8 +73,8 @@ def table(name: str, blade: Blade) -> str:
         rows.append(("reference line", f"from ({d.ox:.6g}, {d.oy:.6g}) along ({d.dx:.6g}, {d.dy:.6g})" + ("" if blade.line_given else ", across the middle of the longest chord")))
     if blade.crossing is not None:
         rows.append(("crosses", "edges {} and {}".format(*blade.crossing.edges)))
-    if blade.march:
-        rows.append(("run", blade.run))
+    if blade.run:
+        rows.append(("circles from" if blade.from_file is not None else "run", blade.run))
     rows.append(("circles", f"{blade.found}, {blade.units} units"))
     if blade.thin_units is not None:
         kept = f"{len(blade.circles)} of {blade.found} kept" if blade.dropped is not None else f"not finished, all {blade.found} kept"
@@ -85,7 +96,11 @@ def message(name: str, blade: Blade) -> str:
     """What was refused, in words, with the number and what to try; empty for a result."""
     if not blade.number:
         return ""
-    advice = CELL_FULL[blade.slots == CELL_SLOTS] if blade.cell and blade.number == 15 else ADVICE[blade.number]
+    advice = ADVICE[blade.number]
+    if blade.cell and blade.number == 15:
+        advice = CELL_FULL[blade.slots == CELL_SLOTS]
+    elif blade.from_file is not None and blade.step == "circles":
+        advice = FROM_FILE.get(blade.number, advice)
     return f"{name}: {blade.ending}. {advice[0].upper()}{advice[1:]}."
 
 
@@ -152,6 +167,7 @@ def as_json(name: str, blade: Blade, options: Options, reading: Reading) -> str:
         "circle": Inscribed._fields,
         "circles": blade.circles,
         "units": blade.units,
+        "offered": blade.offered,
         "dropped": blade.dropped,
         "thin_units": blade.thin_units,
         "thickness_of_all": blade.unthinned[0] if blade.unthinned else None,

@@ -15,12 +15,14 @@ mod stores;
 // What a function told: the words of a line that begins with told, in their order.
 pub(crate) type Told = [u64; 6];
 
-// What is asked: a function, its section and arguments, a count, a vertex or an edge, a yes or no or a place, and a limit.
+// What is asked: a function, its section and arguments, the list that is offered and how many of its circles are, a count, a vertex or an edge, a yes or no or a place, and a limit.
 #[derive(Clone, Copy)]
 pub(crate) struct Question<'a> {
     pub(crate) name: &'a [u8],
     pub(crate) section: &'a [f64],
     pub(crate) args: &'a [f64; ARGUMENTS],
+    pub(crate) offered: &'a [f64],
+    pub(crate) offered_count: usize,
     pub(crate) place: usize,
     pub(crate) how: u64,
     pub(crate) limit: u32,
@@ -206,6 +208,37 @@ fn ask_refinement(q: &Question<'_>, store: &mut [f64], count: &mut usize, units:
     }
 }
 
+// A list offered by the entry that is named, and its ending.
+fn ask_offers(q: &Question<'_>, store: &mut [f64], count: &mut usize, units: &mut u32) -> u32 {
+    let [t, g, ..] = *q.args;
+    match q.name {
+        b"refine_all_cell" => run::rummyteak_refine_all_cell(
+            q.section,
+            t,
+            g,
+            store,
+            q.place,
+            q.offered,
+            q.offered_count,
+            q.limit,
+            count,
+            units,
+        ),
+        _ => run::rummyteak_refine_all(
+            q.section,
+            t,
+            g,
+            store,
+            q.place,
+            q.offered,
+            q.offered_count,
+            q.limit,
+            count,
+            units,
+        ),
+    }
+}
+
 // A march by the entry that is named, and its ending. It tells edges where it says that it has them.
 fn ask_march(
     q: &Question<'_>,
@@ -238,6 +271,7 @@ fn ask_run(q: &Question<'_>, store: &mut [f64], out: &mut [f64], told: &mut Told
         b"refine_and_push" | b"refine_and_push_cell" => {
             ask_refinement(q, store, &mut count, &mut units)
         }
+        b"refine_all" | b"refine_all_cell" => ask_offers(q, store, &mut count, &mut units),
         b"march" | b"march_cell" => ask_march(q, store, &mut count, &mut units, told),
         b"thin" => {
             run::rummyteak_thin(

@@ -30,7 +30,7 @@ impl Left {
     }
 }
 
-// The arguments; the section, the output and the store, each with the length that is handed in; the marks that fill output and store; output and store as they were kept;
+// The arguments; the section, the output and the store, each with the length that is handed in; the list that is offered, with its length and how many of its circles are offered; the marks that fill output and store; output and store as they were kept;
 // and what was told. The lengths stand beside arrays, since no memory is taken from the heap, and a line compares output and store behind them too.
 #[derive(Clone, Copy)]
 pub(crate) struct Case {
@@ -42,6 +42,9 @@ pub(crate) struct Case {
     pub(crate) store_len: usize,
     pub(crate) out_mark: f64,
     pub(crate) store_mark: f64,
+    pub(crate) list: [f64; SLOTS * WIDTH],
+    pub(crate) list_len: usize,
+    pub(crate) offered: usize,
     pub(crate) kept: Left,
     pub(crate) told: Told,
 }
@@ -88,6 +91,9 @@ impl Case {
             store_len: 0,
             out_mark: 0.0,
             store_mark: 0.0,
+            list: [0.0; SLOTS * WIDTH],
+            list_len: 0,
+            offered: 0,
             kept: left,
             told: [0; 6],
         }
@@ -105,13 +111,22 @@ impl Case {
         self.out_mark = fill(&mut self.left.out, line);
     }
 
-    // Puts a number in a place of what is handed in, and returns the one that stood there: arguments from 0 on, the section from 100 on, the output from 8300 on, the store from 16500 on.
+    // The store becomes the list that is offered, of which so many circles are offered as word 1 of a line says.
+    pub(crate) fn set_list(&mut self, line: &[u8]) {
+        let numbers = self.left.store;
+        self.list = numbers;
+        self.list_len = self.store_len;
+        self.offered = count(line, 1);
+    }
+
+    // Puts a number in a place of what is handed in, and returns the one that stood there: arguments from 0 on, the section from 100 on, the output from 8300 on, the store from 16500 on, the list from 30000 on.
     pub(crate) fn replace(&mut self, place: usize, x: f64) -> f64 {
         match place {
             0..=99 => replaced(&mut self.args, place, x),
             100..=8299 => replaced(&mut self.section, place - 100, x),
             8300..=16499 => replaced(&mut self.left.out, place - 8300, x),
-            _ => replaced(&mut self.left.store, place - 16500, x),
+            16500..=29999 => replaced(&mut self.left.store, place - 16500, x),
+            _ => replaced(&mut self.list, place - 30000, x),
         }
     }
 
@@ -119,11 +134,14 @@ impl Case {
     pub(crate) fn ask(&mut self, line: &[u8], k: usize, limit: u32) -> bool {
         self.told = [0; 6];
         let section = &self.section[..self.section_len.min(SECTION)];
+        let offered = &self.list[..self.list_len.min(SLOTS * WIDTH)];
         let mut words = line.split(is_blank).skip(k);
         let question = Question {
             name: words.next().unwrap_or(b""),
             section,
             args: &self.args,
+            offered,
+            offered_count: self.offered,
             place: words.next().map_or(0, whole) as usize,
             how: words.next().map_or(0, whole),
             limit,

@@ -54,6 +54,7 @@ pub(crate) fn is_right(line: &[u8], case: &mut Case) -> bool {
             let store = &mut case.left.store[..];
             copies(&mut store[..len], circle);
         }
+        b"list" => case.set_list(line),
         b"keep" => case.kept = case.left,
         b"ask" => return case.ask(line, 1, limit_of(line, 4)),
         b"told" => return is_told(case, line),

@@ -39,6 +39,8 @@ pub(crate) fn sample(line: &[u8]) -> bool {
         name: word(line, 3),
         section: &profile[from..42 - from],
         args: &samples::inputs::args(seed),
+        offered: &[],
+        offered_count: 0,
         place: 0,
         how: 0,
         limit: NO_LIMIT,
