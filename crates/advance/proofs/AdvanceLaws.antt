@@ -12,12 +12,12 @@ use Rattle.errors.specs.Answer.{Answer}
 use Rattle.errors.specs.declared.Refusal.{Refusal}
 use Rattle.line2.specs.declared.surface2.SurfacePoint2.{SurfacePoint2}
 use Rattle.queries.specs.declared.Crossing.{Crossing}
-use Rattle.runs.specs.Run.{ended, spent, under_limit}
+use Rattle.runs.specs.Run.{under_limit}
 use Rattle.inscribed.specs.declared.Inscribed.{Inscribed}
 use Rattle.halving.specs.Halving.{from_crossing}
 use Rattle.refine.specs.Machine.{finished}
 use Rattle.advance.specs.Advance.{step_of, tried_line}
-use Rattle.advance.specs.Code.{Outcome, ending, circle_outcome, tries_from, outcome_units}
+use Rattle.advance.specs.Code.{Outcome, ending, out_of_units, circle_outcome, tries_from, outcome_units}
 use Rattle.errors.specs.declared.Refusal.TheVariants.{NoAdvance}
 
 -- ---- the loop over the fractions
@@ -26,17 +26,17 @@ module _ (ns : List Float) (tol : Float) (c : Inscribed) (ray : SurfacePoint2) (
     one_more : 4 - k ≡ suc (4 - (k + 1))
     one_more = omega arith
 
-    pub tries-short : lt (step_of c k) tol ≡ true → ending (ended finished) u ≡ whole
+    pub tries-short : lt (step_of c k) tol ≡ true → ending finished u ≡ whole
     unfolding tries_from
     tries-short p = rw (one_more, p) at inv
 
     module _ (long : lt (step_of c k) tol ≡ false) where
-      pub tries-spent : limit ≤ u → ending spent u ≡ whole
+      pub tries-spent : limit ≤ u → out_of_units k u ≡ whole
       unfolding tries_from
       tries-spent h = rw (one_more, long, le-leb limit u h) at inv
 
       module _ (free : u < limit) (r : Answer (Option Crossing)) (is : r ≡ tried_line ns c ray k) where
-        pub tries-refused : (x : Refusal) → r ≡ Err x → ending (ended (Err x)) (u + 1) ≡ whole
+        pub tries-refused : (x : Refusal) → r ≡ Err x → ending (Err x) (u + 1) ≡ whole
         unfolding tries_from
         tries-refused x e = rw (add-one u) (rw (one_more, long, lt-leb limit u free, ← (rw e at is)) at inv)
 
@@ -48,7 +48,7 @@ module _ (ns : List Float) (tol : Float) (c : Inscribed) (ray : SurfacePoint2) (
         unfolding tries_from
         tries_missed e = rw (add-one u, add-one k) (rw (one_more, long, lt-leb limit u free, ← (rw e at is), add-one k) at inv)
 
-  pub tries-over : 4 ≤ k → ending (ended (Err NoAdvance)) u ≡ whole
+  pub tries-over : 4 ≤ k → ending (Err NoAdvance) u ≡ whole
   unfolding tries_from
   tries-over h = let None : 4 - k ≡ 0 = omega arith in rw None at inv
 

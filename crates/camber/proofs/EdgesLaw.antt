@@ -1,4 +1,4 @@
--- 02 (a): the edges that a march tells. No limit has a part in them; they are edges of the section, and two different ones. Assumes nothing.
+-- The edges that a march tells are edges of the section, and two different ones. Assumes nothing.
 use mathlib.Core.Path.{◌≡◌, refl}
 use Rattle.std.specs.Prelude.{Some, Ok, Err}
 use Prim.Native.Nat.{ℕ, ◌<◌}
@@ -10,10 +10,7 @@ use Rattle.queries.specs.Crossing.{crossing_on}
 use Rattle.queries.specs.declared.Crossing.{Crossing}
 use Rattle.queries.specs.declared.HitEdges.{HitEdges}
 use Rattle.queries.proofs.CrossingLaws.{crossing-edges_below, crossing-edges-differ, crossing_there}
-use Rattle.camber.specs.March.{Marched, march_entry, found_edges, march_edges, march_told}
-
-pub edges_at_every_limit : (m : Marched) (limit more : ℕ) → (march_told m limit).edges ≡ (march_told m more).edges
-edges_at_every_limit m limit more = refl
+use Rattle.camber.specs.March.{Marched, march_entry, found_edges, march_edges}
 
 -- both are numbers of edges, and they differ
 abbrev pub EdgesOf : Marched → HitEdges → Type 0

@@ -3,7 +3,9 @@ use mathlib.Core.Path.{◌≡◌, refl}
 use mathlib.Core.Bool.{Bool, true, false, cond}
 use mathlib.Core.List.{List, [], ◌∷◌}
 use Rattle.std.specs.Prelude.{Option, Some, None, Ok, Err}
-use Prim.Native.Nat.{ℕ, suc}
+use Prim.Native.Nat.{ℕ, suc, ◌<◌}
+use native.Mathlib.Omega.{arith}
+use borrow.Author.Tests.{ltb-true}
 use lib.Dec.{ltb}
 use lib.Ieee.{Float, lt}
 use Rattle.errors.specs.Answer.{Answer}
@@ -27,17 +29,17 @@ use Rattle.errors.specs.declared.Refusal.TheVariants.{NoAdvance}
 module _ (ns : List Float) (section_tol : Float) (sec : IsSection ns section_tol) (tol : Float) (slots : ℕ) where
   circle_good : (cs : List Inscribed) (k : ℕ) (a : Answer Inscribed) → ((d : Inscribed) → a ≡ Ok d → bad_circle d ≡ false) → Good (advancing cs k) → Good (after_circle cs a)
   unfolding after_circle any_bad
-  circle_good cs k (Err n) e h = record { circles = h.circles; waiting = refl }
-  circle_good cs k (Ok d) e h = record { circles = h.circles; waiting = rw (e d refl) refl }
+  circle_good cs k (Err n) e h = record { circles = h.circles; waiting = refl; few = omega arith; due = omega arith }
+  circle_good cs k (Ok d) e h = record { circles = h.circles; waiting = rw (e d refl) refl; few = omega arith; due = omega arith }
 
   line_good : (cs : List Inscribed) (k : ℕ) (a : Answer (Option Crossing)) → Good (advancing cs k) → Good (after_line ns tol cs k a)
   unfolding after_line any_bad
-  line_good cs k (Err n) h = record { circles = h.circles; waiting = refl }
-  line_good cs k (Ok None) h = go (ltb k 3)
+  line_good cs k (Err n) h = record { circles = h.circles; waiting = refl; few = omega arith; due = omega arith }
+  line_good cs k (Ok None) h = go (ltb k 3) (ltb-true k 3)
     where
-      go : (b : Bool) → Good (cond b (advancing cs (suc k)) (stopped cs NoAdvance))
-      go true = record { circles = h.circles; waiting = refl }
-      go false = record { circles = h.circles; waiting = refl }
+      go : (b : Bool) → (b ≡ true → k < 3) → Good (cond b (advancing cs (suc k)) (stopped cs NoAdvance))
+      go true e = record { circles = h.circles; waiting = refl; few = omega arith; due = omega (arith, e refl) }
+      go false e = record { circles = h.circles; waiting = refl; few = omega arith; due = omega arith }
   line_good cs k (Ok (Some x)) h = circle_good cs k (from_crossing ns tol x) (λ d e. crossing_passes ns section_tol sec tol x d e) h
 
   advance_good : (cs : List Inscribed) (c : Inscribed) (k : ℕ) (a : MarchAhead) (t : State) → advance_move ns tol cs c k (Ok a) ≡ pays t → Good (advancing cs k) → Good t
@@ -56,7 +58,7 @@ module _ (ns : List Float) (section_tol : Float) (sec : IsSection ns section_tol
 
   pub march_good_goes : (s t : State) → march_step ns tol slots s ≡ goes t → Good s → Good t
   unfolding march_step any_bad
-  march_good_goes (refining cs []) t p h = let e : t ≡ advancing cs 0 = cc in rw e (record { circles = h.circles; waiting = refl })
+  march_good_goes (refining cs []) t p h = let e : t ≡ advancing cs 0 = cc in rw e (record { circles = h.circles; waiting = refl; few = omega arith; due = omega arith })
   march_good_goes (refining cs (b ∷ ws)) t p h = (move_good ns section_tol sec tol slots cs b ws t h).0 p
   march_good_goes (advancing [] k) t p h = no_goes p
   march_good_goes (advancing (c ∷ cs) k) t p h = advance-goes ns tol slots (c ∷ cs) (last_of c cs) k (look_ahead ns (last_of c cs)) t p

@@ -8,3 +8,9 @@ pub mod EdgesLaw
 pub mod MarchLoop
 pub mod MarchFrom
 pub mod PartLaws
+pub mod WantsLaws
+pub mod GoingLimit
+pub mod GoingSlots
+pub mod StateLaws
+pub mod HandedLaws
+pub mod PauseLaws

@@ -12,13 +12,13 @@ use Rattle.errors.specs.declared.Refusal.{Refusal}
 use Rattle.errors.specs.Answer.{Answer, ◌>>=◌}
 use Rattle.errors.proofs.Laws.{given}
 use Rattle.line2.specs.Lines.{finite_line}
-use Rattle.curve2.specs.Entry.{IsSection, section_tests, section_entry, bad_numbers, bad_tolerance, bad_general, finer_general}
-use Rattle.curve2.proofs.Laws.{or_left, or_right, none_bad, entry_passed}
+use Rattle.curve2.specs.Entry.{IsSection, section_entry, bad_general, finer_general}
+use Rattle.curve2.proofs.Laws.{entry_passed}
 use Rattle.queries.specs.Crossing.{crossing_on}
 use Rattle.runs.specs.Run.{ended, under_limit}
 use Rattle.inscribed.specs.Store.{width, most_slots, slots_within, circles_from, circles_of, stored, all_numbers, any_bad}
 use Rattle.inscribed.specs.declared.Inscribed.{Inscribed}
-use Rattle.inscribed.proofs.StoreLaws.{length_all, length-circles, circles_of-stored}
+use Rattle.inscribed.proofs.StoreLaws.{length_all, length-circles, stored_length, circles_of-stored}
 use Rattle.halving.specs.Halving.{inscribed_on}
 use Rattle.circles.specs.Asked.{circle_entry}
 use Rattle.circles.proofs.TrialLaws.{crossing_passes}
@@ -28,7 +28,7 @@ use Rattle.refine.specs.Law.{Settled}
 use Rattle.refine.specs.Offers.{refine_all_of}
 use Rattle.refine.specs.Again.{in_order, called_in_order}
 use Rattle.refine.proofs.GoodLaws.{Good}
-use Rattle.refine.proofs.AgainLaws.{Tested, stored_length, calls_again, all_again}
+use Rattle.refine.proofs.AgainLaws.{Tested, run_tested, calls_again, all_again}
 use Rattle.camber.specs.March.{Marched, march_entry, start_of, started_run, not_started, after_start, march_after, march_of, marched_from, marched_circles}
 use Rattle.camber.specs.Again.{AgainLaw}
 use Rattle.camber.proofs.MarchMachine.{march-fits}
@@ -38,7 +38,7 @@ use Rattle.camber.proofs.GoodMarches.{march_good}
 -- ---- what the entry tests of a march say
 
 module _ (m : Marched) (e : march_entry m ≡ Ok tt) where
-  also_of : section_entry m.section m.section_tol (record { number = not (finite_line m.line); tolerance = bad_general m.tol; finer = finer_general m.section_tol m.tol; room = false }) ≡ Ok tt
+  also_of : section_entry m.section m.section_tol (record { number = not (finite_line m.line); tolerance = bad_general m.tol; finer = finer_general m.section_tol m.tol; room = false; state = false }) ≡ Ok tt
   unfolding circle_entry
   also_of = e
 
@@ -46,23 +46,13 @@ module _ (m : Marched) (e : march_entry m ≡ Ok tt) where
   march_section = entry_passed m.section m.section_tol _ also_of
 
   pub march_tested : Tested m.section m.section_tol m.tol
-  unfolding section_entry
-  march_tested =
-      let none = none_bad (section_tests m.section m.section_tol (record { number = not (finite_line m.line); tolerance = bad_general m.tol; finer = finer_general m.section_tol m.tol; room = false })) also_of in
-      record {
-        count = none.0;
-        numbers = or_left (bad_numbers m.section) _ none.1.0;
-        tolerance = or_left (bad_tolerance m.section_tol) _ none.1.1.0;
-        general = or_right (bad_tolerance m.section_tol) (bad_general m.tol) none.1.1.0;
-        finer = none.1.1.1.0;
-        spaced = none.1.1.1.1.1.0;
-      }
+  march_tested = run_tested m.section m.section_tol m.tol (not (finite_line m.line)) false false also_of
 
   pub start_good : (c : Inscribed) → start_of m ≡ Ok c → Good (refining [] (c ∷ []))
   unfolding inscribed_on any_bad
   start_good c is =
       let one = given (crossing_on m.section m.line) _ c is in
-      record { circles = refl; waiting = rw (crossing_passes m.section m.section_tol march_section m.tol one.value c one.gives) refl }
+      record { circles = refl; waiting = rw (crossing_passes m.section m.section_tol march_section m.tol one.value c one.gives) refl; few = omega arith; due = omega arith }
 
 -- ---- of what a march left
 

@@ -6,7 +6,9 @@ use Rattle.errors.specs.Lists.{last_of}
 use Rattle.line2.specs.declared.Line2.{Line2}
 use Rattle.curve2.specs.Entry.{finer_general}
 use Rattle.queries.specs.Crossing.{crossing_on}
+use Rattle.camber.specs.Paused.{paused_by}
 use Rattle.camber.specs.declared.march.MarchRun.{MarchRun}
+use Rattle.camber.specs.declared.state.MarchState.{MarchState}
 use Rattle.queries.specs.declared.Crossing.{Crossing}
 use Rattle.queries.specs.declared.HitEdges.{HitEdges}
 use Rattle.runs.specs.Run.{Move, ends, goes, pays, ended, Final, under_limit, never, whole}
@@ -111,15 +113,26 @@ marched_from m full (Ok c) = circles_in (started_run m full c).state
 abbrev pub marched_circles : Marched → (ℕ → Bool) → List Inscribed
 marched_circles m full = marched_from m full (march_entry m >>= λ passed. start_of m)
 
--- ---- what a march tells: the run, and the edges of its start
+-- ---- the state that it hands out
+
+unfoldable pub state_after : Marched → (ℕ → Bool) → Answer Inscribed → Option MarchState
+state_after m full (Err r) = None
+state_after m full (Ok c) = let o = started_run m full c in paused_by o.ending o.state
+
+-- "A spent march .. also returns a state"
+abbrev pub march_state : Marched → ℕ → Option MarchState
+march_state m limit = state_after m (under_limit limit) (march_entry m >>= λ passed. start_of m)
+
+-- ---- what a march tells: the run, the edges of its start, and its state
 
 pub record MarchTold : Type 0 where
   pub called : Called (Unit {0})
   pub edges : Option HitEdges
+  pub state : Option MarchState
 
 abbrev pub march_told : Marched → ℕ → MarchTold
-march_told m limit = record { called = march_of m limit; edges = march_edges m }
+march_told m limit = record { called = march_of m limit; edges = march_edges m; state = march_state m limit }
 
 abbrev pub listed_march : Answer MarchRun → List Float → MarchTold
-listed_march (Ok m) store = record { called = ran (listed_run m.run store); edges = m.edges }
-listed_march (Err r) store = record { called = refused_on_entry r store; edges = None }
+listed_march (Ok m) store = record { called = ran (listed_run m.run store); edges = m.edges; state = m.state }
+listed_march (Err r) store = record { called = refused_on_entry r store; edges = None; state = None }

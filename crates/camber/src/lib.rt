@@ -2,6 +2,8 @@
 #![tactic(auto)]
 
 pub mod extraction;
+pub mod going;
 mod halves;
 pub mod laws;
 pub mod march;
+pub mod state;

@@ -13,7 +13,7 @@ use Rattle.circles.specs.declared.CircleOnLine.{CircleOnLine}
 
 -- with whether a number of the other arguments is bad, and whether the general tolerance is finer than the section's (23): one circle or one trial isn't held to that
 unfoldable pub circle_entry : List Float → Float → Float → Bool → Bool → Answer (Unit {0})
-circle_entry ns section_tol tol bad finer = section_entry ns section_tol (record { number = bad; tolerance = bad_general tol; finer = finer; room = false })
+circle_entry ns section_tol tol bad finer = section_entry ns section_tol (record { number = bad; tolerance = bad_general tol; finer = finer; room = false; state = false })
 
 -- of a line handed in
 abbrev pub line_entry : List Float → Float → Float → Line2 → Bool → Answer (Unit {0})

@@ -40,6 +40,7 @@ fn entered(
         tolerance: entering::is_bad_general(tol),
         finer,
         room: false,
+        state: false,
     };
     entering::section_entry(section, section_tol, also)
 }

@@ -58,7 +58,7 @@ cleaned ns tol forced room = cleaning_entry ns tol room >>= λ passed. curve_of 
 -- 1, 2, 3, 4 ("`reversed`'s than its input") and 6
 unfoldable pub backwards : List Float → Float → ℕ → Answer (List Point2)
 backwards ns tol room =
-    section_entry ns tol (record { number = false; tolerance = false; finer = false; room = ltb room (length ns) }) >>= λ passed.
+    section_entry ns tol (record { number = false; tolerance = false; finer = false; room = ltb room (length ns); state = false }) >>= λ passed.
     Ok (reverse (points_of ns))
 
 -- ---- what is returned, and what the output holds then

@@ -129,7 +129,7 @@ module _ (ns : List Float) (tol : Float) (also : AlsoBad) (e : section_entry ns 
     points = has_points ns most_points (lit≤ tt) none.0;
     numbers = or_left (bad_numbers ns) _ none.1.0;
     tolerance = or_left (bad_tolerance tol) _ none.1.1.0;
-    spaced = none.1.1.1.1.1.0;
+    spaced = none.1.1.1.1.1.1.0;
   }
 
   -- and of the other arguments

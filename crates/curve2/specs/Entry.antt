@@ -9,7 +9,7 @@ use Rattle.points.specs.declared.Point2.{Point2}
 use Rattle.curve2.specs.Section.{points_of, plain_dist, lengths_of}
 use Rattle.curve2.specs.declared.AlsoBad.{AlsoBad}
 use Rattle.errors.specs.declared.Refusal.{Refusal}
-use Rattle.errors.specs.declared.Refusal.TheVariants.{BadNumber, FinerThanSection, NoRoom, NotSpaced, PointCount, Tolerance}
+use Rattle.errors.specs.declared.Refusal.TheVariants.{BadNumber, BadState, FinerThanSection, NoRoom, NotSpaced, PointCount, Tolerance}
 
 abbrev pub tested : List (Refusal × Bool) → Answer (Unit {0})
 tested [] = Ok tt
@@ -80,6 +80,7 @@ section_tests ns tol also =
     ∷ (Tolerance, bad_tolerance tol || also.tolerance)
     ∷ (FinerThanSection, also.finer)
     ∷ (NoRoom, also.room)
+    ∷ (BadState, also.state)
     ∷ (NotSpaced, not_spaced ns tol)
     ∷ []
 

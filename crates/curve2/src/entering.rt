@@ -86,6 +86,9 @@ fn check_section(points: &[f64], tol: f64, also: AlsoBad) -> Result<(), Refusal>
     if also.room {
         return Err(Refusal::NoRoom);
     }
+    if also.state {
+        return Err(Refusal::BadState);
+    }
     if is_not_spaced(points, tol) {
         return Err(Refusal::NotSpaced);
     }

@@ -22,6 +22,7 @@ pub struct AlsoBad {
     pub tolerance: bool,
     pub finer: bool,
     pub room: bool,
+    pub state: bool,
 }
 
 // A place on a section: its point, the direction there, its edge and its fraction of that edge.

@@ -31,7 +31,7 @@ pub record EdgeInput : Type 0 where
 unfoldable pub edge_entry : EdgeInput → Bool → Answer (Unit {0})
 edge_entry i finer =
     section_entry i.section i.section_tol
-    (record { number = bad_store i.store i.count; tolerance = bad_general i.tol; finer = finer; room = bad_store_count i.store i.count })
+    (record { number = bad_store i.store i.count; tolerance = bad_general i.tol; finer = finer; room = bad_store_count i.store i.count; state = false })
 
 -- "at the front the order is turned first": the end that is meant comes last
 abbrev pub end_last : Bool → List Inscribed → List Inscribed

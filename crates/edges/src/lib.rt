@@ -36,6 +36,7 @@ fn entered<'a>(
         tolerance: entering::is_bad_general(tol),
         finer,
         room: inscribed::store::is_bad_store_count(store, count),
+        state: false,
     };
     entering::section_entry(section, section_tol, also)
 }

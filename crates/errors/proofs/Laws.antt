@@ -5,7 +5,7 @@ use native.Mathlib.Omega.{arith}
 use Rattle.std.specs.Prelude.{Ok, Err, IsErrAnd}
 use Rattle.errors.specs.Answer.{Answer, ◌>>=◌, number_of}
 use Rattle.errors.specs.declared.Refusal.{Refusal}
-use Rattle.errors.specs.declared.Refusal.TheVariants.{PointCount, BadNumber, Tolerance, NoRoom, TooFewKept, NotSpaced, TooFewCircles, NoCrossing, OffCurve, TooLong, ZeroLength, NotFinite, NoAdvance, StoreFull, StackFull, ClosedSection, GapBehind, GapParallel, GapMissed, EmptyStretch, WrongKind, FinerThanSection, RecordLength, RecordMap, ByteCount}
+use Rattle.errors.specs.declared.Refusal.TheVariants.{PointCount, BadNumber, Tolerance, NoRoom, TooFewKept, NotSpaced, TooFewCircles, NoCrossing, OffCurve, TooLong, ZeroLength, NotFinite, NoAdvance, StoreFull, StackFull, ClosedSection, GapBehind, GapParallel, GapMissed, EmptyStretch, WrongKind, FinerThanSection, RecordLength, RecordMap, ByteCount, BadState}
 
 -- r is what the call gives, d what its definition says, t how the test went
 pub told : {A : Type 0} {r d t : A} → r ≡ d → r ≡ t → d ≡ t
@@ -74,6 +74,7 @@ not_0 FinerThanSection p = omega (arith, p)
 not_0 RecordLength p = omega (arith, p)
 not_0 RecordMap p = omega (arith, p)
 not_0 ByteCount p = omega (arith, p)
+not_0 BadState p = omega (arith, p)
 
 pub not_14 : (r : Refusal) → number_of r ≡ 14 → ⊥
 not_14 PointCount p = omega (arith, p)
@@ -101,3 +102,4 @@ not_14 FinerThanSection p = omega (arith, p)
 not_14 RecordLength p = omega (arith, p)
 not_14 RecordMap p = omega (arith, p)
 not_14 ByteCount p = omega (arith, p)
+not_14 BadState p = omega (arith, p)

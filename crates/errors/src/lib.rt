@@ -59,6 +59,8 @@ pub enum Refusal {
     RecordMap,
     // 26: a byte count that isn't a multiple of eight, or is above 73,728.
     ByteCount,
+    // 27: a state that no spent march gives: too many waiting circles, or a bad one, none while refining, some while advancing, no circle in use, or a fraction above 3.
+    BadState,
 }
 
 // The refusal's number.
@@ -92,6 +94,7 @@ impl From<Refusal> for u32 {
             Refusal::RecordLength => 24,
             Refusal::RecordMap => 25,
             Refusal::ByteCount => 26,
+            Refusal::BadState => 27,
         }
     }
 }

@@ -76,12 +76,12 @@ module _ (ns : List Float) (tol : Float) (slots limit : ℕ) (gap : Gap) where
         let o : Final State End = refine_run ns tol slots full cs (c ∷ []) u in
         let ds : List Inscribed = circles_in o.state in
         let e = after_circles gap point ds o.units o.ending in
-        let p = refined_part ns tol slots limit [] cs c u h w in
+        let p = refined_part ns tol slots limit [] cs (c ∷ []) u h w in
         record {
           more = p.0;
           grown = e ∙ p.1;
-          fits = omega (arith, ap length e, refined_fits ns tol slots limit [] cs c u h w);
-          within = omega (arith, after_units gap point ds o.units o.ending, refined_units ns tol slots limit [] cs c u h w);
+          fits = omega (arith, ap length e, refined_fits ns tol slots limit [] cs (c ∷ []) u h w);
+          within = omega (arith, after_units gap point ds o.units o.ending, refined_units ns tol slots limit [] cs (c ∷ []) u h w);
         }
 
     kept_after_lem : (a : Answer (Option Inscribed)) → Kept cs (after_probe ns tol slots full gap point cs u a)
@@ -143,7 +143,7 @@ module _ (ns : List Float) (tol : Float) (slots limit : ℕ) (gap : Gap) where
 
       pub ran_grown : n ≤ ran.count
       ran_grown =
-          let q = refined_part ns tol slots limit [] cs c u fits_list within in
+          let q = refined_part ns tol slots limit [] cs (c ∷ []) u fits_list within in
           omega (arith, count_is, ap length q.1, length-append cs q.0, length-circles store 0 n)
 
       held : circles_of after ran.count ≡ ds

@@ -8,7 +8,7 @@ use native.Mathlib.Nat.{add-zero}
 use native.Mathlib.Omega.{arith}
 use borrow.Author.Tests.{ltb-false}
 use lib.Dec.{ltb}
-use lib.ListN.{length, get_or, take, drop, length-append, take-append-drop}
+use lib.ListN.{length, get_or, take, drop, length-append, length-drop, take-append-drop}
 use lib.Seq.{drop-cons, drop-drop, take-add, take_at, drop-append-add, get_or-append-add}
 use lib.Ieee.{Float, nan}
 use Rattle.std.specs.Prelude.{Ok}
@@ -34,6 +34,10 @@ pub numbers-append : (cs ds : List Inscribed) → all_numbers (cs ++ ds) ≡ all
 unfolding all_numbers
 numbers-append [] ds = refl
 numbers-append (c ∷ cs) ds = rw (numbers-append cs ds) (sym (append_assoc (numbers_of c) (all_numbers cs) (all_numbers ds)))
+
+pub stored_length : (cs : List Inscribed) (old : List Float) → width * length cs ≤ length old → length (stored cs old) ≡ length old
+unfolding stored
+stored_length cs old h = omega (arith, length-append (all_numbers cs) (drop (width * length cs) old), length_all cs, length-drop (width * length cs) old, h)
 
 pub length-circles : (ns : List Float) (k n : ℕ) → length (circles_from ns k n) ≡ n
 unfolding circles_from

@@ -35,14 +35,14 @@ use Rattle.partitioning.proofs.StretchLaws.{between-count, given_walkable}
 
 module _ (ns : List Float) (tol : Float) (good short : Bool) (all_passed : stretch_entry ns tol good short ≡ Ok tt) where
   abbrev also : AlsoBad
-  also = record { number = not good; tolerance = false; finer = false; room = short }
+  also = record { number = not good; tolerance = false; finer = false; room = short; state = false }
 
   both : (bad_count most_cleaned (length ns) ≡ false) × (section_entry ns tol also ≡ Ok tt)
   unfolding stretch_entry
   both = go (bad_count most_cleaned (length ns)) all_passed
     where
-      go : (b : Bool) → cond b (Err PointCount) (section_entry ns tol (record { number = not good; tolerance = false; finer = false; room = short })) ≡ Ok tt
-          → (b ≡ false) × (section_entry ns tol (record { number = not good; tolerance = false; finer = false; room = short }) ≡ Ok tt)
+      go : (b : Bool) → cond b (Err PointCount) (section_entry ns tol (record { number = not good; tolerance = false; finer = false; room = short; state = false })) ≡ Ok tt
+          → (b ≡ false) × (section_entry ns tol (record { number = not good; tolerance = false; finer = false; room = short; state = false }) ≡ Ok tt)
       go true e = let z : ◌≡◌ {A = ℕ} 0 1 = cc in absurd (omega arith)
       go false e = (refl, e)
 

@@ -44,7 +44,7 @@ is_short ns room = ltb room (length ns + 2)
 unfoldable pub stretch_entry : List Float → Float → Bool → Bool → Answer (Unit {0})
 stretch_entry ns tol good short =
     cond (bad_count most_cleaned (length ns)) (Err PointCount)
-    (section_entry ns tol (record { number = not good; tolerance = false; finer = false; room = short }))
+    (section_entry ns tol (record { number = not good; tolerance = false; finer = false; room = short; state = false }))
 
 -- ---- the entry points; `room` is the length of an output
 

@@ -6,7 +6,7 @@ use Prim.Native.Nat.{ℕ, zero, suc, ◌+◌, ◌*◌, ◌≤◌}
 use native.Mathlib.Omega.{arith}
 use borrow.Author.Tests.{ltb-false, le-ltb}
 use lib.Dec.{T, ltb}
-use lib.ListN.{length, get_or, take, drop, length-append, length-drop}
+use lib.ListN.{length, get_or, take, drop}
 use lib.Seq.{take_at}
 use lib.Ieee.{Float, binary64, nan, fits}
 use Rattle.std.specs.Prelude.{Ok, min}
@@ -16,7 +16,7 @@ use Rattle.curve2.specs.Entry.{tested}
 use Rattle.curve2.proofs.Laws.{none_bad, or_left}
 use Rattle.inscribed.specs.Store.{width, most_slots, slots, numbers_of, circle_from, circle_at, circles_from, circles_of, all_numbers, stored, any_bad, bad_store, bad_store_count}
 use Rattle.inscribed.specs.declared.Inscribed.{Inscribed}
-use Rattle.inscribed.proofs.StoreLaws.{length-circles, length_all, numbers_of-circles, circles_of-stored, count_fits}
+use Rattle.inscribed.proofs.StoreLaws.{length-circles, length_all, stored_length, numbers_of-circles, circles_of-stored, count_fits}
 use Rattle.record.specs.Record.{record_of, write_entry, write_record, read_record, store_after}
 use Rattle.record.proofs.Lengths.{longest_record, longest_reached}
 use Rattle.record.proofs.Written.{Fits, AllFit, none, more, record_back}
@@ -110,10 +110,6 @@ module _ (ns : List Float) (cs : List Inscribed) (room : ℕ) (held : circles_of
   pub write_held : write_record ns (length cs) room ≡ Ok (record_of cs)
   unfolding write_record
   write_held = rw (entry_passed, held) refl
-
-stored_length : (cs : List Inscribed) (old : List Float) → width * length cs ≤ length old → length (stored cs old) ≡ length old
-unfolding stored
-stored_length cs old h = omega (arith, length-append (all_numbers cs) (drop (width * length cs) old), length_all cs, length-drop (width * length cs) old, h)
 
 -- "every accepted string is what the writer gives for what was read", from the store that was read into
 pub written_read : (bs : List ℕ) (old : List Float) (cs : List Inscribed) (room : ℕ) → IsBytes bs → read_record bs (slots old) ≡ Ok cs → length bs ≤ room → write_record (store_after (read_record bs (slots old)) old) (length cs) room ≡ Ok bs

@@ -1,22 +1,22 @@
 -- Refining a list again of which no neighbouring pair would be refined: nothing changes. Assumes nothing.
 use mathlib.Core.Path.{◌≡◌, refl, ◌∙◌}
-use mathlib.Core.Bool.{false}
+use mathlib.Core.Bool.{Bool, false}
 use mathlib.Core.List.{List, [], ◌∷◌, ◌++◌, append_assoc, append-nil}
 use Rattle.std.specs.Prelude.{None, Ok}
-use Prim.Native.Nat.{ℕ, suc, ◌+◌, ◌-◌, ◌*◌, ◌≤◌, ◌<◌, min}
+use Prim.Native.Nat.{ℕ, suc, ◌+◌, ◌-◌, ◌≤◌, ◌<◌, min}
 use native.Mathlib.Omega.{arith}
 use borrow.Author.Tests.{le-ltb, lt-leb}
-use lib.ListN.{length, drop, length-append, length-drop}
+use lib.ListN.{length, length-append}
 use lib.Ieee.{Float}
 use Rattle.errors.specs.Lists.{last_of}
-use Rattle.curve2.specs.Entry.{section_entry, bad_count, bad_numbers, bad_tolerance, bad_general, finer_general, not_spaced, most_points}
-use Rattle.curve2.proofs.Laws.{or_left, or_right}
+use Rattle.curve2.specs.Entry.{section_tests, section_entry, bad_count, bad_numbers, bad_tolerance, bad_general, finer_general, not_spaced, most_points}
+use Rattle.curve2.proofs.Laws.{or_left, or_right, none_bad}
 use Rattle.runs.specs.Run.{ended, final_of, under_limit}
 use Rattle.runs.proofs.RunLaws.{whole_ends, whole_goes, whole_pays}
 use Rattle.circles.specs.Trial.{trial}
-use Rattle.inscribed.specs.Store.{width, slots, slots_within, circles_from, circles_of, stored, all_numbers, bad_circle, any_bad}
+use Rattle.inscribed.specs.Store.{slots, slots_within, circles_from, circles_of, stored, all_numbers, bad_circle, any_bad}
 use Rattle.inscribed.specs.declared.Inscribed.{Inscribed}
-use Rattle.inscribed.proofs.StoreLaws.{length_all, circles_of-stored, stored_longer}
+use Rattle.inscribed.proofs.StoreLaws.{stored_length, circles_of-stored, stored_longer}
 use Rattle.refine.specs.Machine.{refining, finished, with_room, after_trial, refine_move, measure, refine_step, refine_run}
 use Rattle.refine.specs.Report.{ran, reported}
 use Rattle.refine.specs.Refinement.{Offer, refine_entry, after_entry, refinement, refine_of}
@@ -24,10 +24,6 @@ use Rattle.refine.specs.Offers.{Offers, offers_entry, offers_run, after_offers_e
 use Rattle.refine.specs.Law.{Settled}
 use Rattle.refine.specs.Again.{in_order, after_call, called_in_order}
 use Rattle.refine.proofs.MoveLaws.{refine_falls}
-
-pub stored_length : (cs : List Inscribed) (old : List Float) → width * length cs ≤ length old → length (stored cs old) ≡ length old
-unfolding stored
-stored_length cs old h = omega (arith, length-append (all_numbers cs) (drop (width * length cs) old), length_all cs, length-drop (width * length cs) old)
 
 -- what the entry tests of a run ask of its section and tolerances
 pub record Tested (ns : List Float) (section_tol tol : Float) : Type 0 where
@@ -37,6 +33,20 @@ pub record Tested (ns : List Float) (section_tol tol : Float) : Type 0 where
   pub general : bad_general tol ≡ false
   pub finer : finer_general section_tol tol ≡ false
   pub spaced : not_spaced ns section_tol ≡ false
+
+pub run_tested : (ns : List Float) (section_tol tol : Float) (number room state : Bool)
+    → section_entry ns section_tol (record { number = number; tolerance = bad_general tol; finer = finer_general section_tol tol; room = room; state = state }) ≡ Ok tt → Tested ns section_tol tol
+unfolding section_entry
+run_tested ns section_tol tol number room state e =
+    let none = none_bad (section_tests ns section_tol (record { number = number; tolerance = bad_general tol; finer = finer_general section_tol tol; room = room; state = state })) e in
+    record {
+      count = none.0;
+      numbers = or_left (bad_numbers ns) _ none.1.0;
+      tolerance = or_left (bad_tolerance section_tol) _ none.1.1.0;
+      general = or_right (bad_tolerance section_tol) (bad_general tol) none.1.1.0;
+      finer = none.1.1.1.0;
+      spaced = none.1.1.1.1.1.1.0;
+    }
 
 -- ---- one circle offered, whose trial against the last adds nothing
 

@@ -62,7 +62,7 @@ module _ (ns : List Float) (tol : Float) (slots limit : ℕ) (old : List Float) 
 
     -- the report over the store that all began with
     over_old : listed_run r after ≡ reported old refined
-    over_old = is ∙ ap (λ (x : List Float). reported x refined) w.holds ∙ refined_report ns tol slots limit old cs b u fits_list w.within
+    over_old = is ∙ ap (λ (x : List Float). reported x refined) w.holds ∙ refined_report ns tol slots limit old cs (b ∷ []) u fits_list w.within
 
     ending_is : listed_end r.end ≡ refined.ending
     unfolding reported
@@ -96,8 +96,8 @@ module _ (ns : List Float) (tol : Float) (slots limit : ℕ) (old : List Float) 
 
       pub one_goes : Offering after r.count r.units bs
       one_goes = record {
-        fits = omega (arith, count_is, refined_fits ns tol slots limit old cs b u fits_list w.within);
-        within = omega (arith, units_is, refined_units ns tol slots limit old cs b u fits_list w.within);
+        fits = omega (arith, count_is, refined_fits ns tol slots limit old cs (b ∷ []) u fits_list w.within);
+        within = omega (arith, units_is, refined_units ns tol slots limit old cs (b ∷ []) u fits_list w.within);
         holds = rw held store_is;
         left = rw (held, units_is) (ap (λ (x : Ending End). reported old (after_one go refined x)) (sym (sym ending_is ∙ e)) ∙ after_is);
       }

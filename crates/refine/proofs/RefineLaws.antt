@@ -1,4 +1,4 @@
--- The loop of `refine_behind`: each way through its body keeps that what is left of the run gives the whole. Assumes nothing.
+-- The loop of `refine_waiting`: each way through its body keeps that what is left of the run gives the whole. Assumes nothing.
 use mathlib.Core.Path.{◌≡◌, refl, sym, ap, ◌∙◌}
 use mathlib.Core.Bool.{Bool, true, false, cond}
 use mathlib.Core.List.{List, [], ◌∷◌, ◌++◌, reverse, reverse-append}
@@ -21,6 +21,7 @@ use Rattle.inscribed.specs.declared.Inscribed.{Inscribed}
 use Rattle.inscribed.proofs.StoreLaws.{stored_push, stored-again, circle_of-stored, length-circles}
 use Rattle.circles.specs.Trial.{trial}
 use Rattle.refine.specs.Machine.{most_waiting, State, refining, stopped, circles_in, End, finished, with_room, after_room, after_trial, refine_move, measure, refine_step, refine_run}
+use Rattle.refine.specs.Code.{waiting_in}
 use Rattle.refine.specs.Report.{RunReport, reported}
 use Rattle.refine.proofs.MoveLaws.{refine_falls}
 use Rattle.errors.specs.declared.Refusal.TheVariants.{StackFull, StoreFull}
@@ -107,6 +108,12 @@ module _ (ns : List Float) (tol : Float) (slots limit : ℕ) (old : List Float) 
           reported_as store n l.cs spent (refining l.cs (b ∷ ws)) u l.long l.holds refl
           (sym (whole_spent step (measure slots) (refine_falls ns tol slots) (under_limit limit) (refining l.cs (b ∷ ws)) u (after_trial slots l.cs b ws result_of) paying (le-leb limit u h)) ∙ l.left)
 
+      -- and those that wait are those of the state
+      pub loop_waits : limit ≤ u → b ∷ ws ≡ waiting_in target.state
+      loop_waits h =
+          ap (λ (o : Final State End). waiting_in o.state)
+          (sym (whole_spent step (measure slots) (refine_falls ns tol slots) (under_limit limit) (refining l.cs (b ∷ ws)) u (after_trial slots l.cs b ws result_of) paying (le-leb limit u h)) ∙ l.left)
+
       module _ (more : u < limit) (w : ℕ) (waits : suc (length ws) ≡ w) where
         paid : whole step (measure slots) (under_limit limit) (after_trial slots l.cs b ws asked) (suc u) ≡ target
         paid =
@@ -174,3 +181,14 @@ room_to_take slots n w (Ok None) e = go (leb slots n) (leb-false slots n) e
     go : (y : Bool) → (y ≡ false → n < slots) → ◌≡◌ {A = Answer (Option Inscribed)} (cond y (Err StoreFull) (Ok None)) (Ok None) → n < slots
     go true h p = let z : ◌≡◌ {A = ℕ} 0 1 = ap tag_of p in absurd (omega arith)
     go false h p = h refl
+
+-- ---- endings
+
+pub ended-unspent : (e : End) → ◌≡◌ {A = Ending End} (ended e) spent → ⊥
+ended-unspent e p = let z : ◌≡◌ {A = ℕ} 0 1 = cc in absurd (omega arith)
+
+pub spent-not_finished : ◌≡◌ {A = Ending End} spent (ended finished) → ⊥
+spent-not_finished p = let z : ◌≡◌ {A = ℕ} 0 1 = cc in absurd (omega arith)
+
+pub refused-not_finished : (r : Refusal) → ◌≡◌ {A = Ending End} (ended (Err r)) (ended finished) → ⊥
+refused-not_finished r p = let z : ◌≡◌ {A = ℕ} 0 1 = cc in absurd (omega arith)

@@ -322,7 +322,7 @@ module _ (t : Unthinned) where
     offer = offer_after t (thin_of t limit) slot_limit circle
 
     abbrev also : AlsoBad
-    also = record { number = bad_store t.store t.count; tolerance = bad_general t.tol; finer = finer_general t.section_tol t.tol; room = bad_store_count t.store t.count }
+    also = record { number = bad_store t.store t.count; tolerance = bad_general t.tol; finer = finer_general t.section_tol t.tol; room = bad_store_count t.store t.count; state = false }
 
     tests : NoneBad (section_tests t.section t.section_tol also)
     unfolding section_entry thin_entry
@@ -344,7 +344,7 @@ module _ (t : Unthinned) where
     unfolding refine_entry section_entry
     enters =
         let few : min offer.count (slots_within slot_limit offer.store) ≡ offer.count = omega (arith, room) in
-        rw (tests.0, or_left (bad_numbers t.section) _ tests.1.0, few, now.good good_before, passes, or_left (bad_tolerance t.section_tol) _ tests.1.1.0, or_right (bad_tolerance t.section_tol) _ tests.1.1.0, tests.1.1.1.0, le-ltb (slots_within slot_limit offer.store) offer.count room, tests.1.1.1.1.1.0) refl
+        rw (tests.0, or_left (bad_numbers t.section) _ tests.1.0, few, now.good good_before, passes, or_left (bad_tolerance t.section_tol) _ tests.1.1.0, or_right (bad_tolerance t.section_tol) _ tests.1.1.0, tests.1.1.1.0, le-ltb (slots_within slot_limit offer.store) offer.count room, tests.1.1.1.1.1.1.0) refl
 
     pub later_law : (later : ℕ) → LaterRefinementLaw offer later
     later_law later =

@@ -1,5 +1,5 @@
 -- `refine_all`: a list of circles offered in order, within one limit of units over all. Assumes nothing.
-use Rattle.std.specs.Prelude.{Bool, ◌||◌, List, [], ◌∷◌, ℕ, drop, Float, Ok, Err}
+use Rattle.std.specs.Prelude.{Bool, false, ◌||◌, List, [], ◌∷◌, ℕ, drop, Float, Ok, Err}
 use Rattle.errors.specs.Answer.{Answer}
 use Rattle.curve2.specs.Entry.{bad_general, finer_general, section_entry}
 use Rattle.runs.specs.Run.{Ending, ended, spent, unfinished, Final, final_of, under_limit, never}
@@ -28,6 +28,7 @@ offers_entry o =
       tolerance = bad_general o.tol;
       finer = finer_general o.section_tol o.tol;
       room = bad_count_within o.slot_limit o.store o.count || bad_store_count o.offered o.offered_count;
+      state = false;
     })
 
 -- after the refinement of one circle: the next one where it is finished, else this is how all ends

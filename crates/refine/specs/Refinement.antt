@@ -1,5 +1,5 @@
 -- `refine_and_push`: "demand 3's plain run". Assumes nothing.
-use Rattle.std.specs.Prelude.{Bool, ◌||◌, List, [], ◌∷◌, ℕ, drop, Float, Ok, Err}
+use Rattle.std.specs.Prelude.{Bool, false, ◌||◌, List, [], ◌∷◌, ℕ, drop, Float, Ok, Err}
 use Rattle.errors.specs.Answer.{Answer}
 use Rattle.curve2.specs.Entry.{bad_general, finer_general, section_entry}
 use Rattle.runs.specs.Run.{Final, under_limit, never}
@@ -21,7 +21,7 @@ pub record Offer : Type 0 where
 unfoldable pub refine_entry : Offer → Answer (Unit {0})
 refine_entry o =
     section_entry o.section o.section_tol
-    (record { number = bad_store_within o.slot_limit o.store o.count || bad_circle o.circle; tolerance = bad_general o.tol; finer = finer_general o.section_tol o.tol; room = bad_count_within o.slot_limit o.store o.count })
+    (record { number = bad_store_within o.slot_limit o.store o.count || bad_circle o.circle; tolerance = bad_general o.tol; finer = finer_general o.section_tol o.tol; room = bad_count_within o.slot_limit o.store o.count; state = false })
 
 -- "The offered circle waits alone."
 abbrev pub offered_run : Offer → (ℕ → Bool) → Final State End

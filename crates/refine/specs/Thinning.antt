@@ -4,7 +4,7 @@
 --   refinement writes into them. Entry tests are a refinement's, without the offered circle; under two circles nothing happens after them. A store
 --   holds 1,024 circles at most. A spent limit, or a refusal inside a trial, leaves the whole store as it was, with the stated count and the units taken.
 -- Assumes nothing.
-use Rattle.std.specs.Prelude.{Bool, List, [], ◌∷◌, ◌++◌, ℕ, zero, suc, ◌-◌, ◌*◌, length, replicate, drop, Float, Option, Some, None, Ok, Err}
+use Rattle.std.specs.Prelude.{Bool, false, List, [], ◌∷◌, ◌++◌, ℕ, zero, suc, ◌-◌, ◌*◌, length, replicate, drop, Float, Option, Some, None, Ok, Err}
 use Rattle.errors.specs.Answer.{Answer}
 use Rattle.errors.specs.Lists.{last_of}
 use Rattle.errors.specs.declared.Refusal.{Refusal}
@@ -82,7 +82,7 @@ pub record Unthinned : Type 0 where
 unfoldable pub thin_entry : Unthinned → Answer (Unit {0})
 thin_entry t =
     section_entry t.section t.section_tol
-    (record { number = bad_store t.store t.count; tolerance = bad_general t.tol; finer = finer_general t.section_tol t.tol; room = bad_store_count t.store t.count })
+    (record { number = bad_store t.store t.count; tolerance = bad_general t.tol; finer = finer_general t.section_tol t.tol; room = bad_store_count t.store t.count; state = false })
 
 unfoldable pub thin_after : Unthinned → (ℕ → Bool) → Answer (Unit {0}) → Called (Unit {0})
 unfolding thin_reported

@@ -6,7 +6,6 @@ pub mod laws;
 mod moves;
 pub mod offers;
 pub mod thinning;
-mod waiting;
 
 ghost use Rattle.curve2.specs.Lent.{IsLent};
 ghost use Rattle.errors.specs.Answer.{passed};
@@ -24,7 +23,7 @@ use inscribed::store::{CELL_SLOTS, MOST_SLOTS};
 use runs::Units;
 
 // How many circles may wait in a refinement.
-pub(crate) const MOST_WAITING: usize = 64;
+pub const MOST_WAITING: usize = 64;
 
 // How a run ends: with its result, spent, or refused. Of these three endings spent is no refusal, so this is no `Result`; and as a refusal goes up with a count and units, it goes up in a `Run` and not by `?`.
 #[derive(Clone, Copy)]
@@ -128,6 +127,7 @@ fn entered<'a>(
         tolerance: entering::is_bad_general(tol),
         finer: entering::is_finer_general(section_tol, tol),
         room: inscribed::store::is_bad_count_within(store, slot_limit, count),
+        state: false,
     };
     entering::section_entry(section, section_tol, also)
 }

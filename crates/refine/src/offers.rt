@@ -61,6 +61,7 @@ fn entered<'a>(
         tolerance: entering::is_bad_general(tol),
         finer: entering::is_finer_general(section_tol, tol),
         room: has_no_room(store, slot_limit, count, offered, offered_count),
+        state: false,
     };
     entering::section_entry(section, section_tol, also)
 }

@@ -113,6 +113,7 @@ fn entered<'a>(
         tolerance: entering::is_bad_general(tol),
         finer: entering::is_finer_general(section_tol, tol),
         room: inscribed::store::is_bad_store_count(store, count),
+        state: false,
     };
     entering::section_entry(section, section_tol, also)
 }

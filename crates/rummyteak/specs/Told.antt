@@ -1,5 +1,5 @@
 -- What a call by the C interface returns, and what it leaves behind the references that it is lent: its values where there is a result, else what stood there. Assumes nothing.
-use Rattle.std.specs.Prelude.{Bool, true, false, List, [], ◌∷◌, ℕ, ◌-◌, ◌*◌, Float, Option, Some, None, Ok, Err}
+use Rattle.std.specs.Prelude.{Bool, true, false, if◌then◌else◌, nat_lt, List, [], ◌∷◌, ℕ, ◌-◌, ◌*◌, Float, Option, Some, None, Ok, Err}
 use Rattle.errors.specs.Answer.{Answer, number_of, ◌>>=◌}
 use Rattle.points.specs.declared.Point2.{Point2}
 use Rattle.line2.specs.declared.Line2.{Line2}
@@ -16,6 +16,8 @@ use Rattle.inscribed.specs.declared.Inscribed.{Inscribed}
 use Rattle.inscribed.specs.declared.FrontAndBack.{FrontAndBack}
 use Rattle.refine.specs.Report.{Called, refused_on_entry, ran, ending_number}
 use Rattle.camber.specs.March.{MarchTold}
+use Rattle.camber.specs.declared.state.MarchState.{MarchState}
+use Rattle.rummyteak.specs.declared.given.StateCells.{StateCells}
 
 -- the number that is returned, 0 for a result, and what is left behind the references
 pub record Told (A : Type 0) : Type 0 where
@@ -36,6 +38,10 @@ told before answer = told_as (λ a. a) before answer
 -- a line by its origin and its direction
 abbrev pub given_line : Float → Float → Float → Float → Line2
 given_line ox oy dx dy = record { origin = record { x = ox; y = oy }; direction = record { x = dx; y = dy } }
+
+-- a state by its cells: refining where the first isn't 0
+abbrev pub given_state : StateCells → MarchState
+given_state c = record { is_refining = nat_lt 0 c.refining; fraction = c.fraction; count = c.count; waiting = c.waiting }
 
 -- ---- what is written
 
@@ -158,6 +164,11 @@ start_after before edges (ran r) = edges_left before.edges edges
 
 abbrev pub start_left : StartCells → MarchTold → StartCells
 start_left before m = start_after before m.edges m.called
+
+-- the state of a march or a going on, where it hands one out
+unfoldable pub state_left : StateCells → Option MarchState → StateCells
+state_left before None = before
+state_left before (Some s) = record { refining = if s.is_refining then 1 else 0; fraction = s.fraction; count = s.count; waiting = s.waiting }
 
 -- the edge point of a fit, where it ends with one
 unfoldable pub point_at_end : List Float → Ending (Answer Point2) → List Float

@@ -5,9 +5,11 @@ ghost use Rattle.refine.specs.Refinement.{refine_of};
 ghost use Rattle.refine.specs.Offers.{refine_all_of};
 ghost use Rattle.refine.specs.Thinning.{thin_of};
 ghost use Rattle.camber.specs.March.{march_of, march_told};
+ghost use Rattle.camber.specs.Going.{going_of};
 ghost use Rattle.camber.specs.Extraction.{extraction_of};
-ghost use Rattle.rummyteak.specs.Told.{given_line, told_run, start_cells, start_left};
+ghost use Rattle.rummyteak.specs.Told.{given_line, given_state, told_run, start_cells, start_left, state_left};
 
+use crate::given::StateCells;
 use crate::{given, telling};
 use inscribed::store::WIDTH;
 
@@ -145,7 +147,9 @@ pub fn rummyteak_refine_all_cell(
     )
 }
 
-// The circles on one side of a line, within a limit of units, and the edges of the line's crossing once that is found.
+/// The circles on one side of a line, within a limit of units; the edges of the line's crossing once that is found; and the state that `rummyteak_go_on` goes on from where the march is spent.
+///
+/// Refused on entry, with nothing written: 1, 2, 3, 23, 6. Refused later (8, 10, 11, 12, 13, 15, 16), or spent (14): the store keeps the circles that it accepted. The state is written with 14 alone.
 pub fn rummyteak_march(
     section: &[f64],
     section_tol: f64,
@@ -160,17 +164,20 @@ pub fn rummyteak_march(
     units: &mut u32,
     edges: &mut [usize; 2],
     found: &mut bool,
+    state: &mut StateCells,
 ) -> u32
     ensures store_after { (record { number = result; count = count.new; units = units.new; store = store.new }) ≡ told_run count.old units.old (march_of (record { section = section.now; section_tol = section_tol; tol = tol; line = given_line ox oy dx dy; store = store.old; slot_limit = most_slots }) limit) }
     ensures found_after { start_cells edges.new found.new ≡ start_left (start_cells edges.old found.old) (march_told (record { section = section.now; section_tol = section_tol; tol = tol; line = given_line ox oy dx dy; store = store.old; slot_limit = most_slots }) limit) }
+    ensures state_after { state.new ≡ state_left state.old (march_told (record { section = section.now; section_tol = section_tol; tol = tol; line = given_line ox oy dx dy; store = store.old; slot_limit = most_slots }) limit).state }
 {
     let line = given::line(ox, oy, dx, dy);
     let answer = camber::march::march(section, section_tol, tol, line, store, limit);
     telling::tell_edges(answer, edges, found);
+    telling::tell_march_state(answer, state);
     telling::tell_run(camber::march::called(answer), count, units)
 }
 
-/// `rummyteak_march` for the cell: the store holds 256 circles at most.
+/// `rummyteak_march` for the cell: the store holds 256 circles at most. Where it is spent, `rummyteak_go_on_cell` goes on.
 ///
 /// Refused on entry, with the store untouched: 1, 2, 3, 23, 6. Refused later (15 for a 257th circle), or spent (14): the store keeps the circles that it accepted.
 pub fn rummyteak_march_cell(
@@ -187,14 +194,63 @@ pub fn rummyteak_march_cell(
     units: &mut u32,
     edges: &mut [usize; 2],
     found: &mut bool,
+    state: &mut StateCells,
 ) -> u32
     ensures store_after { (record { number = result; count = count.new; units = units.new; store = store.new }) ≡ told_run count.old units.old (march_of (record { section = section.now; section_tol = section_tol; tol = tol; line = given_line ox oy dx dy; store = store.old; slot_limit = cell_slots }) limit) }
     ensures found_after { start_cells edges.new found.new ≡ start_left (start_cells edges.old found.old) (march_told (record { section = section.now; section_tol = section_tol; tol = tol; line = given_line ox oy dx dy; store = store.old; slot_limit = cell_slots }) limit) }
+    ensures state_after { state.new ≡ state_left state.old (march_told (record { section = section.now; section_tol = section_tol; tol = tol; line = given_line ox oy dx dy; store = store.old; slot_limit = cell_slots }) limit).state }
 {
     let line = given::line(ox, oy, dx, dy);
     let answer = camber::march::march_cell(section, section_tol, tol, line, store, limit);
     telling::tell_edges(answer, edges, found);
+    telling::tell_march_state(answer, state);
     telling::tell_run(camber::march::called(answer), count, units)
+}
+
+/// Goes on with a march, from the state of a spent march or going on, in the store that it left with `stated` circles, within a second limit of units. The state is read, and written where this run is spent too.
+///
+/// Refused on entry, with nothing written: 1, 2, 3, 23, 4, 27, 6. Refused later (10, 11, 12, 13, 15, 16), or spent (14): the store keeps the circles that it accepted, and a spent one writes its state.
+pub fn rummyteak_go_on(
+    section: &[f64],
+    section_tol: f64,
+    tol: f64,
+    store: &mut [f64],
+    stated: usize,
+    state: &mut StateCells,
+    limit: u32,
+    count: &mut usize,
+    units: &mut u32,
+) -> u32
+    ensures store_after { (record { number = result; count = count.new; units = units.new; store = store.new }) ≡ told_run count.old units.old (going_of (record { section = section.now; section_tol = section_tol; tol = tol; store = store.old; count = stated; slot_limit = most_slots; state = given_state state.old }) limit).called }
+    ensures state_after { state.new ≡ state_left state.old (going_of (record { section = section.now; section_tol = section_tol; tol = tol; store = store.old; count = stated; slot_limit = most_slots; state = given_state state.old }) limit).state }
+{
+    let from = given::state(state);
+    let answer = camber::going::go_on(section, section_tol, tol, store, stated, &from, limit);
+    telling::tell_going_state(answer, state);
+    telling::tell_run(camber::going::called(answer), count, units)
+}
+
+/// `rummyteak_go_on` for the cell, by which a march by `rummyteak_march_cell` goes on: the store holds 256 circles at most.
+///
+/// Refused on entry, with nothing written: 1, 2, 3, 23, 4, 27, 6; 4 is a count above 256 too. Refused later (15 for a 257th circle), or spent (14): the store keeps the circles that it accepted, and a spent one writes its state.
+pub fn rummyteak_go_on_cell(
+    section: &[f64],
+    section_tol: f64,
+    tol: f64,
+    store: &mut [f64],
+    stated: usize,
+    state: &mut StateCells,
+    limit: u32,
+    count: &mut usize,
+    units: &mut u32,
+) -> u32
+    ensures store_after { (record { number = result; count = count.new; units = units.new; store = store.new }) ≡ told_run count.old units.old (going_of (record { section = section.now; section_tol = section_tol; tol = tol; store = store.old; count = stated; slot_limit = cell_slots; state = given_state state.old }) limit).called }
+    ensures state_after { state.new ≡ state_left state.old (going_of (record { section = section.now; section_tol = section_tol; tol = tol; store = store.old; count = stated; slot_limit = cell_slots; state = given_state state.old }) limit).state }
+{
+    let from = given::state(state);
+    let answer = camber::going::go_on_cell(section, section_tol, tol, store, stated, &from, limit);
+    telling::tell_going_state(answer, state);
+    telling::tell_run(camber::going::called(answer), count, units)
 }
 
 // The circles on both sides of a line, within a limit of units.

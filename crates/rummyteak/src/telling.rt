@@ -1,12 +1,16 @@
 // How an answer is told by the C interface: its number is returned, and its values are written where there is a result.
 ghost use Rattle.std.specs.Prelude.{◌≡◌, List, Float};
 ghost use Rattle.errors.specs.Answer.{number};
+ghost use Rattle.camber.specs.Going.{listed_going};
 ghost use Rattle.camber.specs.March.{listed_march};
 ghost use Rattle.inscribed.specs.Store.{numbers_of};
 ghost use Rattle.refine.specs.Report.{listed_end, listed_called};
-ghost use Rattle.rummyteak.specs.Told.{told_as, told, line_numbers, crossing_cells, crossing_left, circle_on_line_left, start_cells, edges_left, start_left, station_cells, station_left, trial_cells, trial_left, end_cells, ends_left, curve_cells, piece_cells, pieces_cells, pieces_left, told_run, point_at_end, point_left};
+ghost use Rattle.rummyteak.specs.Told.{told_as, told, line_numbers, crossing_cells, crossing_left, circle_on_line_left, start_cells, edges_left, start_left, state_left, station_cells, station_left, trial_cells, trial_left, end_cells, ends_left, curve_cells, piece_cells, pieces_cells, pieces_left, told_run, point_at_end, point_left};
 
+use crate::given::StateCells;
+use camber::going::GoneOn;
 use camber::march::MarchRun;
+use camber::state::MarchState;
 use circles::CircleOnLine;
 use cleaning::Curve;
 use curve2::CurveStation2;
@@ -236,6 +240,42 @@ pub(crate) fn tell_edges(a: Result<MarchRun, Refusal>, edges: &mut [usize; 2], f
 {
     if let Ok(m) = a {
         put_edges(m.edges, edges, found);
+    }
+}
+
+// Writes a state, where one is handed out.
+#[tactic(auto, unfolding(crate::specs::Told::state_left))]
+fn put_state(a: Option<MarchState>, state: &mut StateCells)
+    ensures { state.new ≡ state_left state.old a }
+{
+    if let Some(s) = a {
+        let waiting = s.waiting;
+        *state = StateCells {
+            refining: usize::from(s.is_refining),
+            fraction: s.fraction,
+            count: s.count,
+            waiting,
+        };
+    }
+}
+
+// The state of a spent march.
+#[tactic(auto, unfolding(crate::specs::Told::state_left))]
+pub(crate) fn tell_march_state(a: Result<MarchRun, Refusal>, state: &mut StateCells)
+    ensures { (store : List Float) → state.new ≡ state_left state.old (listed_march a store).state }
+{
+    if let Ok(m) = a {
+        put_state(m.state, state);
+    }
+}
+
+// The state of a spent going on.
+#[tactic(auto, unfolding(crate::specs::Told::state_left))]
+pub(crate) fn tell_going_state(a: Result<GoneOn, Refusal>, state: &mut StateCells)
+    ensures { (store : List Float) → state.new ≡ state_left state.old (listed_going a store).state }
+{
+    if let Ok(g) = a {
+        put_state(g.state, state);
     }
 }
 

@@ -2,4 +2,5 @@
 pub mod RunLaws
 pub mod LimitLaws
 pub mod SequelLaws
+pub mod PauseLaws
 pub mod RoomLaws

@@ -17,13 +17,13 @@ use Rattle.sections.specs.Places.{at_length, length_along, at_closest}
 
 -- nothing beside the section; a number that isn't finite (2); a place that isn't there (4)
 abbrev pub alone : AlsoBad
-alone = record { number = false; tolerance = false; finer = false; room = false }
+alone = record { number = false; tolerance = false; finer = false; room = false; state = false }
 
 abbrev pub with_number : Bool → AlsoBad
-with_number good = record { number = not good; tolerance = false; finer = false; room = false }
+with_number good = record { number = not good; tolerance = false; finer = false; room = false; state = false }
 
 abbrev pub with_place : Bool → Bool → AlsoBad
-with_place good there = record { number = not good; tolerance = false; finer = false; room = not there }
+with_place good there = record { number = not good; tolerance = false; finer = false; room = not there; state = false }
 
 -- ---- the section itself
 

@@ -30,7 +30,7 @@ pub struct LengthPair {
 
 // The entry tests, with a bad number (2) and a place that isn't there (4) among the other arguments: two flags, since an `AlsoBad` would take four lines more at each call.
 fn entered(section: &[f64], tol: f64, number: bool, room: bool) -> Result<Curve2<'_>, Refusal>
-    ensures entry { passed result ≡ section_entry section.now tol (record { number = number; tolerance = false; finer = false; room = room }) }
+    ensures entry { passed result ≡ section_entry section.now tol (record { number = number; tolerance = false; finer = false; room = room; state = false }) }
     ensures lent { IsLent section.now tol result }
 {
     let also = AlsoBad {

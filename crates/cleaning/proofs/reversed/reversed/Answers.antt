@@ -13,7 +13,7 @@ unfolding backwards
 returns-in_err-section c =
     let p = err_from_is_err_and c.from_residual.result c.from_residual.ensures.1 in
     let none = c.default.ensures in
-    rw (p.1, p.2) (made_refused _ _ _ (rw (← (rw (none.0, none.1.0, none.1.1.0) at c.in_err-section.ensures.entry))))
+    rw (p.1, p.2) (made_refused _ _ _ (rw (← (rw (none.0, none.1.0, none.1.1.0, none.1.1.1.1) at c.in_err-section.ensures.entry))))
 
 pub put_backwards-requires : goal.put_backwards-requires
 put_backwards-requires c =
@@ -32,4 +32,4 @@ returns c =
     let even = rw h.lent.0 at c.in_ok-section.section.has_points.even in
     let put = rw h.lent.0 at c.put_backwards.ensures in
     let none = c.default.ensures in
-    rw (← (rw (none.0, none.1.0, none.1.1.0) at h.entry)) (made_curve _ _ _ put _ _ (omega (arith, backwards-length c.args.points.now even)) _ c.curve_held.ensures)
+    rw (← (rw (none.0, none.1.0, none.1.1.0, none.1.1.1.1) at h.entry)) (made_curve _ _ _ put _ _ (omega (arith, backwards-length c.args.points.now even)) _ c.curve_held.ensures)

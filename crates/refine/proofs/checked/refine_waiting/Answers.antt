@@ -1,21 +1,25 @@
--- `refine_behind` is the refinement run from the circles in its store on, where there is one. Assumes nothing.
+-- `refine_waiting` is the refinement run from the circles in its store on, where there is one. Assumes nothing.
 use mathlib.Core.Path.{refl, sym, ◌∙◌}
 use native.Mathlib.Omega.{arith}
 use Prim.Native.Nat.{◌<◌}
 use lib.ListN.{length, length-reverse}
 use Rattle.std.proofs.lemmas.Bool.{false≢true, leb-true, leb-false}
 use Rattle.std.proofs.lemmas.List.{nil_from_length}
-use Rattle.refine.proofs.RefineLaws.{newest, loop_start, loop_finished, loop_spent, loop_refused, loop_added, loop_accepted, room_to_wait, room_to_take}
-use Rattle.refine.proofs.waiting.refine_behind.Goals as goal
+use Rattle.refine.proofs.RefineLaws.{spent-not_finished, refused-not_finished, loop_waits, ended-unspent, newest, loop_start, loop_finished, loop_spent, loop_refused, loop_added, loop_accepted, room_to_wait, room_to_take}
+use Rattle.refine.proofs.checked.refine_waiting.Goals as goal
 
 pub loop-top-init : goal.loop-top-init
 loop-top-init c = let (fits, in_bounds) = c.args.circles.now.in_store in
-    rw (c.push.ensures.items, c.new-waiting.ensures) (omega arith, omega arith, omega arith, (refl, refl), loop_start _ _ _ _ _ _ _ _ fits in_bounds)
+    (c.requires.few, omega arith, omega (arith, c.requires.some), (refl, refl), loop_start _ _ _ _ _ _ _ _ fits in_bounds)
 
-pub returns-in-None : goal.returns-in-None
-returns-in-None c = let at = c.loop-top in
+pub returns-in-None-clause-run : goal.returns-in-None-clause-run
+returns-in-None-clause-run c = let at = c.loop-top in
     rw c.spent.ensures
     (loop_spent _ _ _ _ _ _ _ _ _ _ _ (rw (newest _ _ _ c.in-Some.ensures.items) at at.invariant.4) (λ e. omega arith) (omega (arith, at.invariant.1, leb-true _ _ (sym c.in-None.ensures.spent))), at.invariant.3, refl)
+
+pub returns-in-None-clause-waits : goal.returns-in-None-clause-waits
+returns-in-None-clause-waits c = let at = c.loop-top in
+    λ e. rw (newest _ _ _ c.push.ensures.items) (loop_waits _ _ _ _ _ _ _ _ _ _ _ (rw (newest _ _ _ c.in-Some.ensures.items) at at.invariant.4) (λ z. omega arith) (omega (arith, at.invariant.1, leb-true _ _ (sym c.in-None.ensures.spent))))
 
 pub push-requires-in-Ok-Some-2 : goal.push-requires-in-Ok-Some-2
 push-requires-in-Ok-Some-2 c = (omega arith, omega (arith, c.len.ensures.value, c.push-in-Ok-Some.ensures.len, room_to_wait _ _ _ _ _ (sym (rw (c.last-last.ensures, c.in-Ok-Some.is, c.in-Ok-Some.field-0-is) at c.tried.ensures))))
@@ -48,13 +52,30 @@ loop-top-preserved c = let at = c.loop-top in
           (loop_accepted _ _ _ _ _ _ _ _ _ _ _ (rw (newest _ _ _ c.in-Some.ensures.items) at at.invariant.4) (λ e. omega arith) (omega (arith, at.invariant.1, leb-false _ _ (sym c.in-Some-take.ensures.spent))) _ (omega (arith, length-reverse c.pop.new.self.items, c.len.ensures.value)) (sym (rw (c.last-last.ensures, c.in-Ok-None.is, c.in-Ok-None.field-0-is) at c.tried.ensures))),
     )
 
-pub returns-in-Err : goal.returns-in-Err
-returns-in-Err c = let at = c.loop-top in
+pub returns-in-Err-clause-run : goal.returns-in-Err-clause-run
+returns-in-Err-clause-run c = let at = c.loop-top in
     rw (c.refused.ensures, c.in-Some-take.ensures.one.1)
     (loop_refused _ _ _ _ _ _ _ _ _ _ _ (rw (newest _ _ _ c.in-Some.ensures.items) at at.invariant.4) (λ e. omega arith) (omega (arith, at.invariant.1, leb-false _ _ (sym c.in-Some-take.ensures.spent))) _ (omega (arith, length-reverse c.pop.new.self.items, c.len.ensures.value)) _ (sym (rw (c.last-last.ensures, c.in-Err.is) at c.tried.ensures)), at.invariant.3, refl)
 
-pub returns : goal.returns
-returns c = let at = c.loop-top in
+pub returns-clause-run : goal.returns-clause-run
+returns-clause-run c = let at = c.loop-top in
     let none_waits : 0 < length at.waiting.items → ⊥ = λ h. false≢true (c.in_default.ensures.variant.1 h) in
     let none = nil_from_length at.waiting.items (omega (arith, none_waits)) in
     rw c.finished.ensures (loop_finished _ _ _ _ _ _ _ _ _ (rw none at at.invariant.4), at.invariant.3, refl)
+
+pub returns-in-Err-clause-waits : goal.returns-in-Err-clause-waits
+returns-in-Err-clause-waits c = λ e. absurd (ended-unspent _ (rw c.refused.ensures at e))
+
+pub returns-clause-waits : goal.returns-clause-waits
+returns-clause-waits c = λ e. absurd (ended-unspent _ (rw c.finished.ensures at e))
+
+pub returns-in-None-clause-none_left : goal.returns-in-None-clause-none_left
+returns-in-None-clause-none_left c = λ e. absurd (spent-not_finished (rw c.spent.ensures at e))
+
+pub returns-in-Err-clause-none_left : goal.returns-in-Err-clause-none_left
+returns-in-Err-clause-none_left c = λ e. absurd (refused-not_finished _ (rw c.refused.ensures at e))
+
+pub returns-clause-none_left : goal.returns-clause-none_left
+returns-clause-none_left c = let at = c.loop-top in
+    let none_waits : 0 < length at.waiting.items → ⊥ = λ h. false≢true (c.in_default.ensures.variant.1 h) in
+    λ e. rw c.in_default.ensures.empty (nil_from_length at.waiting.items (omega (arith, none_waits)))
