@@ -329,12 +329,12 @@ fn run(edges: usize, open: bool, which: Which, once: bool) -> Left {
             let (mut count, mut units) = (0, 0);
             let [ox, oy, dx, dy] = line;
             let (p, n, s, l) = (section.as_ptr(), section.len(), store.as_mut_ptr(), store.len());
-            let (mut edges, mut found) = ([0; 2], false);
+            let (mut edges, mut found, mut state) = ([0; 2], false, MarchState::none());
             let (time, number) = timed(|| unsafe {
                 match which {
                     Which::Extraction => rummyteak_extract_circles(p, n, T, G, ox, oy, dx, dy, s, l, u32::MAX, &mut count, &mut units),
-                    Which::March => rummyteak_march(p, n, T, G, ox, oy, dx, dy, s, l, u32::MAX, &mut count, &mut units, &mut edges, &mut found),
-                    Which::Cell => rummyteak_march_cell(p, n, T, G, ox, oy, dx, dy, s, l, u32::MAX, &mut count, &mut units, &mut edges, &mut found),
+                    Which::March => rummyteak_march(p, n, T, G, ox, oy, dx, dy, s, l, u32::MAX, &mut count, &mut units, &mut edges, &mut found, &mut state),
+                    Which::Cell => rummyteak_march_cell(p, n, T, G, ox, oy, dx, dy, s, l, u32::MAX, &mut count, &mut units, &mut edges, &mut found, &mut state),
                 }
             });
             assert_eq!(number, 0);

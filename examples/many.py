@@ -43,8 +43,9 @@ def main(arguments: Optional[List[str]] = None) -> int:
         say(f"many.py: no file in {mine.folder}\n")
         return 66
     args = parser().parse_args([*rest, "--", *names])
-    if args.from_file is not None:
-        parser().error("--from does not go with a folder")
+    for option, name in (("--from", args.from_file), ("--go-on", args.go_on)):
+        if name is not None:
+            parser().error(f"{option} does not go with a folder")
 
     from distributed import Client, LocalCluster
 

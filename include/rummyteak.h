@@ -4,9 +4,10 @@
  * beforehand: any content and any lengths are met by a result or by one of these numbers, and every call ends.
  *
  * What a call writes. A result writes what the function's comment says. A refusal writes nothing, but for a run
- * (refine_and_push, refine_all, march, extract_circles, fit_open_edge) that was not refused on entry: it keeps its accepted
- * circles in the store and writes count and units. The entries for the cell (refine_and_push_cell, refine_all_cell, march_cell)
- * are such runs. A thinning (thin) that is refused later, or spent, writes count and units too, and leaves the whole store as it
+ * (refine_and_push, refine_all, march, go_on, extract_circles, fit_open_edge) that was not refused on entry: it keeps its accepted
+ * circles in the store and writes count and units. The entries for the cell (refine_and_push_cell, refine_all_cell, march_cell,
+ * go_on_cell) are such runs. A march and a going on write the state that they are handed where they are spent, and else leave it
+ * as it was. A thinning (thin) that is refused later, or spent, writes count and units too, and leaves the whole store as it
  * was. An output keeps what stands behind the result.
  *
  * What the caller owes. A pointer with a length points to that many numbers (with length 0 it may be null); a pointer
@@ -40,6 +41,8 @@ extern "C" {
 #define RUMMYTEAK_SLOTS 1024
 /* The same by the entries for the cell, whose program has slots for 256. */
 #define RUMMYTEAK_CELL_SLOTS 256
+/* Circles that wait in a refinement at most. */
+#define RUMMYTEAK_WAITING 64
 /* Points of a section, and of what is cleaned or cut, at most. */
 #define RUMMYTEAK_POINTS 4096
 #define RUMMYTEAK_CLEANED 4095
@@ -104,7 +107,29 @@ enum rummyteak_ending {
     /* a hand-over record's map with one of bits 9 to 15, or with a bit over a field that is all zero */
     RUMMYTEAK_RECORD_MAP = 25,
     /* bytes of stored numbers: a count that isn't a multiple of eight, or is above 73,728 */
-    RUMMYTEAK_BYTE_COUNT = 26
+    RUMMYTEAK_BYTE_COUNT = 26,
+    /* a state that no spent march hands out: over 64 waiting circles or a bad one, none while refining, some while advancing, no
+     * circle in use, or, while advancing, a fraction above 3 */
+    RUMMYTEAK_BAD_STATE = 27
+};
+
+/* Where a spent march stands: march and go_on write it with 14, and go_on reads it. It is all in these plain numbers, with no
+ * pointer among them, so that it may be copied, kept, and written to a file byte by byte and read back by a program on the same
+ * kind of machine. The layout is fixed: refining at offset 0, fraction at 8, count at 16 and waiting at 24, 4,632 bytes in all,
+ * and no byte between them; where the machine has the least significant byte of a number first, so do these bytes. Any content
+ * of the bytes is taken: it is met by a result or a refusal.
+ * A state is that of one march: of its section, its tolerances, its store with the circles in use, and its entry, the cell's or
+ * the other. */
+struct rummyteak_march_state {
+    /* 0 while advancing, any other number while refining; 1 is written */
+    uint64_t refining;
+    /* while advancing, the number of the fraction that is due, 0 to 3; while refining 0 is written, and it is not read */
+    uint64_t fraction;
+    /* how many circles wait: 1 to RUMMYTEAK_WAITING while refining, 0 while advancing */
+    uint64_t count;
+    /* the waiting circles, packed from the start on as in a store, the newest last; the one whose trial is due is among them.
+     * What stands behind them is +0 when written, and not read */
+    double waiting[RUMMYTEAK_WAITING * RUMMYTEAK_WIDTH];
 };
 
 /* ---- the square root */
@@ -192,10 +217,11 @@ uint32_t rummyteak_refine_and_push(const double *section, size_t section_len, do
                                    size_t *count, uint32_t *units);
 
 /* The circles on one side of a line, and on both sides. The store's content doesn't count. A march that was not refused on
- * entry writes found, whether its line has a crossing, and where it has one the crossing's 2 edges, whichever way it ends. */
+ * entry writes found, whether its line has a crossing, and where it has one the crossing's 2 edges, whichever way it ends. Where
+ * it is spent (14) it writes its state, from which go_on goes on; with every other number the state stays as it was. */
 uint32_t rummyteak_march(const double *section, size_t section_len, double section_tol, double tol, double ox, double oy,
                          double dx, double dy, double *store, size_t store_len, uint32_t limit, size_t *count,
-                         uint32_t *units, size_t *edges, bool *found);
+                         uint32_t *units, size_t *edges, bool *found, struct rummyteak_march_state *state);
 uint32_t rummyteak_extract_circles(const double *section, size_t section_len, double section_tol, double tol, double ox,
                                    double oy, double dx, double dy, double *store, size_t store_len, uint32_t limit,
                                    size_t *count, uint32_t *units);
@@ -205,9 +231,9 @@ uint32_t rummyteak_extract_circles(const double *section, size_t section_len, do
  * count of 257 is 4, and the 257th circle is not looked at, so that a bad one is 4 where refine_and_push says 2. What stands in
  * the store behind slot 256 is neither read nor written.
  * With a stated count of at most RUMMYTEAK_CELL_SLOTS: where the run above leaves no more circles than that, both are alike in
- * all: the number, count and units, the edges, and every bit of the store. Else the cell's ends in 15 with RUMMYTEAK_CELL_SLOTS
- * circles, the first ones of the run above bit for bit, within its units, with the same edges, and the store behind them is as
- * it was. This holds at every limit, the same for both.
+ * all: the number, count and units, the edges, every bit of the store, and the state of a spent march. Else the cell's ends in 15
+ * with RUMMYTEAK_CELL_SLOTS circles, the first ones of the run above bit for bit, within its units, with the same edges, and the
+ * store behind them is as it was. This holds at every limit, the same for both.
  * Extraction and the fit of the open edge have no entry for the cell, and what is asked of a list of circles needs none, nor does
  * a thinning: a store that was filled here is handed to those functions as it is. They hold up to RUMMYTEAK_SLOTS. */
 uint32_t rummyteak_refine_and_push_cell(const double *section, size_t section_len, double section_tol, double tol,
@@ -215,7 +241,40 @@ uint32_t rummyteak_refine_and_push_cell(const double *section, size_t section_le
                                         uint32_t limit, size_t *count, uint32_t *units);
 uint32_t rummyteak_march_cell(const double *section, size_t section_len, double section_tol, double tol, double ox,
                               double oy, double dx, double dy, double *store, size_t store_len, uint32_t limit,
-                              size_t *count, uint32_t *units, size_t *edges, bool *found);
+                              size_t *count, uint32_t *units, size_t *edges, bool *found,
+                              struct rummyteak_march_state *state);
+
+/* Goes on with a march that was spent (14): from the state that it wrote, in the store that it left, where stated is the count
+ * that it wrote, within a second limit of units. The state is read; where this run is spent too its state is written in its place,
+ * and with every other number it stays as it was.
+ * Tested on entry, in this order: 1; 2, of the section and of the circles in use as far as the store holds them; 3; 23; 4, a
+ * stated count above what the store holds; 27, of the state and the stated count; 6. A refusal on entry writes nothing. A
+ * waiting circle that fails the test of 2 is 27.
+ * While refining it goes on with the trial of the newest waiting circle; while advancing it begins with the stop test again, and
+ * then takes the due fraction. From there on it is the march: it ends with a result, is spent (14), or is refused later (10, 11,
+ * 12, 13, 15, 16). It keeps the circles that it accepts in the slots behind those in use, later slots untouched. count is how
+ * many circles are in use then, and units are those of this call alone.
+ * A march with the limit a that is spent, and then a going on with the limit b, are one march with the limit a + b, where that is
+ * no more than UINT32_MAX, and where the going on has the entry of the march, its section and both tolerances, and the store, as
+ * long as it was, and the state as the march left them: both end with the same number and the same count, with every bit of the
+ * store the same, and where they are spent with the same state, bit for bit; the units of the march and of the going on add up to
+ * those of the one march. The same holds of a going on that is spent and the going on from its state, so that a march may be
+ * taken in any number of pieces. With the limit 0 a going on from the state of a spent march, or of a spent going on, is spent
+ * with no unit, and leaves state and store as they were. The edges come with the march alone, spent or not.
+ * Go on after 14 alone, with which a state always comes, one that is none of 27 with the count that comes with it. With any
+ * other number the state is still the one that was handed in, and no longer that of the store. With that one, with one made by
+ * hand, or with another section, tolerance, store or entry, this call is a result or a refusal as any other is; what is promised
+ * of a march in pieces is not promised of it. */
+uint32_t rummyteak_go_on(const double *section, size_t section_len, double section_tol, double tol, double *store,
+                         size_t store_len, size_t stated, struct rummyteak_march_state *state, uint32_t limit,
+                         size_t *count, uint32_t *units);
+
+/* The same by the entry for the cell, by which a march of march_cell goes on: the store holds at most RUMMYTEAK_CELL_SLOTS
+ * circles, however long it is, and 2, 4 and 15 go by these slots, as in refine_and_push_cell. With a stated count of at most
+ * RUMMYTEAK_CELL_SLOTS both entries are alike, or the cell's ends in 15, as those of a march. */
+uint32_t rummyteak_go_on_cell(const double *section, size_t section_len, double section_tol, double tol, double *store,
+                              size_t store_len, size_t stated, struct rummyteak_march_state *state, uint32_t limit,
+                              size_t *count, uint32_t *units);
 
 /* Offers the circles of a list in order to a store that holds `stated`, each refined until none waits before the next is offered,
  * within one limit of units over all: what planning calls with an old list after a changeover.

@@ -553,14 +553,18 @@ fn runs(g: &mut Generator, s: &Shape, tol: f64, section: &[f64], tally: &mut Tal
         let marched = tally.compare(Call::March, section, &join(t, &l), &store);
         tally.compare(Call::Thin(marched.told[1] as usize), section, &t, &marched.store);
         tally.offer_again(Call::March, section, t, &marched);
+        tally.in_pieces(Call::March, section, &join(t, &l), &store, &marched);
         let marched = tally.compare(Call::MarchCell, section, &join(t, &l), &store);
         tally.offer_again(Call::MarchCell, section, t, &marched);
+        tally.in_pieces(Call::MarchCell, section, &join(t, &l), &store, &marched);
         // A finer tolerance, by which a march may leave more circles than the cell holds.
         if k == 0 && section.len() < 80 {
             let finer = [tol, (t[1] / 64.0).max(tol).max(1e-6)];
-            tally.compare(Call::March, section, &join(finer, &l), &store);
+            let marched = tally.compare(Call::March, section, &join(finer, &l), &store);
+            tally.in_pieces(Call::March, section, &join(finer, &l), &store, &marched);
             let marched = tally.compare(Call::MarchCell, section, &join(finer, &l), &store);
             tally.offer_again(Call::MarchCell, section, finer, &marched);
+            tally.in_pieces(Call::MarchCell, section, &join(finer, &l), &store, &marched);
         }
         let whole = tally.compare(Call::Extract, section, &join(t, &l), &store);
         let count = whole.told[1] as usize;

@@ -2,6 +2,22 @@
 pub type In = *const f64;
 pub type Out = *mut f64;
 
+// The state of a spent march.
+#[repr(C)]
+#[derive(Clone)]
+pub struct MarchState {
+    pub refining: u64,
+    pub fraction: u64,
+    pub count: u64,
+    pub waiting: [f64; 64 * 9],
+}
+
+impl MarchState {
+    pub fn none() -> MarchState {
+        MarchState { refining: 0, fraction: 0, count: 0, waiting: [0.0; 64 * 9] }
+    }
+}
+
 unsafe extern "C" {
     pub fn rummyteak_from_points(p: In, n: usize, tol: f64, force_closed: bool, o: Out, m: usize, count: &mut usize, is_closed: &mut bool) -> u32;
     pub fn rummyteak_reversed(p: In, n: usize, tol: f64, o: Out, m: usize, count: &mut usize, is_closed: &mut bool) -> u32;
@@ -24,14 +40,22 @@ unsafe extern "C" {
     ) -> u32;
     pub fn rummyteak_march(
         p: In, n: usize, section_tol: f64, tol: f64, ox: f64, oy: f64, dx: f64, dy: f64, s: Out, l: usize, limit: u32, count: &mut usize,
-        units: &mut u32, edges: &mut [usize; 2], found: &mut bool,
+        units: &mut u32, edges: &mut [usize; 2], found: &mut bool, state: &mut MarchState,
     ) -> u32;
     pub fn rummyteak_refine_and_push_cell(
         p: In, n: usize, section_tol: f64, tol: f64, s: Out, l: usize, stated: usize, circle: In, limit: u32, count: &mut usize, units: &mut u32,
     ) -> u32;
     pub fn rummyteak_march_cell(
         p: In, n: usize, section_tol: f64, tol: f64, ox: f64, oy: f64, dx: f64, dy: f64, s: Out, l: usize, limit: u32, count: &mut usize,
-        units: &mut u32, edges: &mut [usize; 2], found: &mut bool,
+        units: &mut u32, edges: &mut [usize; 2], found: &mut bool, state: &mut MarchState,
+    ) -> u32;
+    pub fn rummyteak_go_on(
+        p: In, n: usize, section_tol: f64, tol: f64, s: Out, l: usize, stated: usize, state: &mut MarchState, limit: u32, count: &mut usize,
+        units: &mut u32,
+    ) -> u32;
+    pub fn rummyteak_go_on_cell(
+        p: In, n: usize, section_tol: f64, tol: f64, s: Out, l: usize, stated: usize, state: &mut MarchState, limit: u32, count: &mut usize,
+        units: &mut u32,
     ) -> u32;
     pub fn rummyteak_extract_circles(
         p: In, n: usize, section_tol: f64, tol: f64, ox: f64, oy: f64, dx: f64, dy: f64, s: Out, l: usize, limit: u32, count: &mut usize,

@@ -360,6 +360,8 @@ pub struct Tally {
     most_circles: u64,
     cut: u64,
     again: u64,
+    paused: u64,
+    pieces: u64,
 }
 
 // The numbers of 01's "Domain" that are added, and 02 (e)'s 23: no answer of the Rust.
@@ -483,6 +485,17 @@ impl Tally {
         }
     }
 
+    // A march in pieces of so many units each, from 1 to 40 by its own units, tells and leaves what it does at once.
+    pub fn in_pieces(&mut self, march: Call, section: &[f64], args: &[f64], store: &[f64], marched: &port::Answer) {
+        let limit = 1 + (marched.told[2] % 40) as u32;
+        let (got, pieces) = port::march_in_pieces(march, section, args, store, limit);
+        assert!(got.told == marched.told && got.edges == marched.edges && same(&got.store, &marched.store), "a march in pieces is another march");
+        if 1 < pieces {
+            self.paused += 1;
+            self.pieces += pieces;
+        }
+    }
+
     fn report(&self) -> bool {
         println!("{:<20}{:>10}{:>10}{:>14}{:>11}", "", "values", "refused", "not compared", "different");
         let mut sum = [0u64; 4];
@@ -498,6 +511,7 @@ impl Tally {
         println!("most rounds of an edge fit: {}; most circles of a run: {}", self.most_rounds, self.most_circles);
         println!("of the values, lists cut at the cell's {CELL_SLOTS} circles: {}", self.cut);
         println!("lists of one march, offered again and found the same: {}", self.again);
+        println!("marches in pieces that were found the same as at once: {}, in {} pieces", self.paused, self.pieces);
         println!("{} comparisons, {} different", sum[0] + sum[1], sum[3]);
         sum[3] == 0
     }

@@ -78,7 +78,7 @@ pub fn call(call: Call, section: &[f64], args: &[f64], store: &[f64]) -> Answer 
     let mut out = vec![REST; room];
     let mut store = store.to_vec();
     let (mut count, mut units, mut yes) = (0usize, 0u32, false);
-    let mut edges = [0; 2];
+    let (mut edges, mut state) = ([0; 2], MarchState::none());
     let (mut counts, mut closed, mut given) = ([0usize; 2], [false; 2], [0usize; 2]);
     let (p, n, s, l, o, m) = (section.as_ptr(), section.len(), store.as_mut_ptr(), store.len(), out.as_mut_ptr(), out.len());
     // The two tolerances, then a length, a point, a vector or a line; or circles.
@@ -116,8 +116,8 @@ pub fn call(call: Call, section: &[f64], args: &[f64], store: &[f64]) -> Answer 
             Call::RefineAllCell(stated) => {
                 rummyteak_refine_all_cell(p, n, t, g, s, l, stated, offered, offered_len, offered_count, NO_LIMIT, &mut count, &mut units)
             }
-            Call::March => rummyteak_march(p, n, t, g, x, y, dx, dy, s, l, NO_LIMIT, &mut count, &mut units, &mut edges, &mut yes),
-            Call::MarchCell => rummyteak_march_cell(p, n, t, g, x, y, dx, dy, s, l, NO_LIMIT, &mut count, &mut units, &mut edges, &mut yes),
+            Call::March => rummyteak_march(p, n, t, g, x, y, dx, dy, s, l, NO_LIMIT, &mut count, &mut units, &mut edges, &mut yes, &mut state),
+            Call::MarchCell => rummyteak_march_cell(p, n, t, g, x, y, dx, dy, s, l, NO_LIMIT, &mut count, &mut units, &mut edges, &mut yes, &mut state),
             Call::Extract => rummyteak_extract_circles(p, n, t, g, x, y, dx, dy, s, l, NO_LIMIT, &mut count, &mut units),
             Call::Thin(stated) => rummyteak_thin(p, n, t, g, s, l, stated, NO_LIMIT, &mut count, &mut units),
             Call::FitOpenEdge(stated, front) => rummyteak_fit_open_edge(p, n, t, g, s, l, stated, front, NO_LIMIT, o, &mut count, &mut units),
@@ -156,4 +156,36 @@ pub fn call(call: Call, section: &[f64], args: &[f64], store: &[f64]) -> Answer 
         _ => false,
     };
     Answer { told, edges: has_edges.then_some(edges), out, store }
+}
+
+// A march by either entry in pieces of so many units each: what the last one leaves, with the units of all, the edges that the first one told, and how many pieces there were.
+pub fn march_in_pieces(march: Call, section: &[f64], args: &[f64], store: &[f64], limit: u32) -> (Answer, u64) {
+    let mut store = store.to_vec();
+    let (mut count, mut units, mut all, mut found, mut pieces) = (0usize, 0u32, 0u64, false, 1);
+    let (mut edges, mut state) = ([0; 2], MarchState::none());
+    let (p, n, s, l) = (section.as_ptr(), section.len(), store.as_mut_ptr(), store.len());
+    let [t, g, x, y, dx, dy] = std::array::from_fn(|i| args[i]);
+    let cell = march == Call::MarchCell;
+    let mut number = unsafe {
+        if cell {
+            rummyteak_march_cell(p, n, t, g, x, y, dx, dy, s, l, limit, &mut count, &mut units, &mut edges, &mut found, &mut state)
+        } else {
+            rummyteak_march(p, n, t, g, x, y, dx, dy, s, l, limit, &mut count, &mut units, &mut edges, &mut found, &mut state)
+        }
+    };
+    all += units as u64;
+    while number == 14 {
+        number = unsafe {
+            if cell {
+                rummyteak_go_on_cell(p, n, t, g, s, l, count, &mut state, limit, &mut count, &mut units)
+            } else {
+                rummyteak_go_on(p, n, t, g, s, l, count, &mut state, limit, &mut count, &mut units)
+            }
+        };
+        all += units as u64;
+        pieces += 1;
+    }
+    let mut told = [0; WORDS];
+    told[..3].copy_from_slice(&[number as u64, count as u64, all]);
+    (Answer { told, edges: found.then_some(edges), out: vec![REST; 2 * WIDTH], store }, pieces)
 }

@@ -7,6 +7,7 @@
 #include <fenv.h>
 #include <inttypes.h>
 #include <math.h>
+#include <stddef.h>
 #include <stdio.h>
 #include <stdlib.h>
 #include <string.h>
@@ -27,6 +28,9 @@ static void expect(bool right, const char *what, int line)
 }
 
 #define EXPECT(x) expect((x), #x, __LINE__)
+
+/* The state of a march that no test looks at. */
+static struct rummyteak_march_state aside;
 
 static uint64_t bits(double x)
 {
@@ -251,29 +255,29 @@ static void runs(void)
     uint32_t units = 77, all = 77;
     bool found = false;
     double *big = marked(W * 200), *small = marked(W * 200), *none = marked(W - 1);
-    EXPECT(rummyteak_march(r, RLEN, T, G, 4, 1, 0, 1, big, W * 200, RUMMYTEAK_NO_LIMIT, &full, &all, edges, &found) == 0);
+    EXPECT(rummyteak_march(r, RLEN, T, G, 4, 1, 0, 1, big, W * 200, RUMMYTEAK_NO_LIMIT, &full, &all, edges, &found, &aside) == 0);
     EXPECT(found && edges[0] == 0 && edges[1] == 2);
     EXPECT(full > 0 && all > 0 && untouched(big, W * full, W * 200));
     for (uint32_t limit = 0; limit <= all + 1; limit++) {
         for (size_t i = 0; i < W * 200; i++)
             small[i] = MARK;
         edges[0] = edges[1] = 77, found = false;
-        uint32_t n = rummyteak_march(r, RLEN, T, G, 4, 1, 0, 1, small, W * 200, limit, &count, &units, edges, &found);
+        uint32_t n = rummyteak_march(r, RLEN, T, G, 4, 1, 0, 1, small, W * 200, limit, &count, &units, edges, &found, &aside);
         EXPECT(found && edges[0] == 0 && edges[1] == 2);
         EXPECT((n == 14) == (limit < all) && units == (limit < all ? limit : all));
         EXPECT(count <= full && same(small, big, W * count) && untouched(small, W * count, W * 200));
     }
     count = 77, units = 77;
-    EXPECT(rummyteak_march(r, RLEN, T, G, 4, 1, 0, 1, none, W - 1, 9, &count, &units, edges, &found) == 15 && count == 0 && units == 0);
+    EXPECT(rummyteak_march(r, RLEN, T, G, 4, 1, 0, 1, none, W - 1, 9, &count, &units, edges, &found, &aside) == 15 && count == 0 && units == 0);
     EXPECT(found && edges[0] == 0 && edges[1] == 2);
     edges[0] = edges[1] = 77;
-    EXPECT(rummyteak_march(r, RLEN, T, G, 20, 1, 0, 1, none, W - 1, 9, &count, &units, edges, &found) == 8 && count == 0 && units == 0);
+    EXPECT(rummyteak_march(r, RLEN, T, G, 20, 1, 0, 1, none, W - 1, 9, &count, &units, edges, &found, &aside) == 8 && count == 0 && units == 0);
     EXPECT(!found && edges[0] == 77 && edges[1] == 77);
     found = true;
     count = 77, units = 77;
-    EXPECT(rummyteak_march(r, RLEN, T, NAN, 4, 1, 0, 1, none, W - 1, 9, &count, &units, edges, &found) == 3 && count == 77 && units == 77);
+    EXPECT(rummyteak_march(r, RLEN, T, NAN, 4, 1, 0, 1, none, W - 1, 9, &count, &units, edges, &found, &aside) == 3 && count == 77 && units == 77);
     /* a general tolerance finer than the section's */
-    EXPECT(rummyteak_march(r, RLEN, G, T, 4, 1, 0, 1, none, W - 1, 9, &count, &units, edges, &found) == 23 && count == 77 && units == 77);
+    EXPECT(rummyteak_march(r, RLEN, G, T, 4, 1, 0, 1, none, W - 1, 9, &count, &units, edges, &found, &aside) == 23 && count == 77 && units == 77);
     EXPECT(found && edges[0] == 77 && edges[1] == 77);
     EXPECT(rummyteak_extract_circles(r, RLEN, G, T, 4, 1, 0, 1, none, W - 1, 9, &count, &units) == 23 && count == 77);
     EXPECT(rummyteak_extract_circles(odd, 5, T, G, 4, 1, 0, 1, none, W - 1, 9, &count, &units) == 1 && count == 77);
@@ -368,23 +372,50 @@ static void cell_refinements(void)
     release(r), release(circle), release(full), release(store), release(more), release(third);
 }
 
+/* A state as the header lays it out. */
+_Static_assert(sizeof(struct rummyteak_march_state) == 4632, "the size of a state");
+_Static_assert(offsetof(struct rummyteak_march_state, refining) == 0 && sizeof aside.refining == 8, "refining");
+_Static_assert(offsetof(struct rummyteak_march_state, fraction) == 8 && sizeof aside.fraction == 8, "fraction");
+_Static_assert(offsetof(struct rummyteak_march_state, count) == 16 && sizeof aside.count == 8, "count");
+_Static_assert(offsetof(struct rummyteak_march_state, waiting) == 24 && sizeof aside.waiting == 4608, "waiting");
+_Static_assert(sizeof aside.waiting == 8 * RUMMYTEAK_WAITING * W && RUMMYTEAK_WAITING == 64, "64 may wait");
+
+/* A state that is lent, and all marks; release_state gives it back. */
+static struct rummyteak_march_state *marked_state(void)
+{
+    return (struct rummyteak_march_state *)(void *)marked(sizeof(struct rummyteak_march_state) / sizeof(double));
+}
+
+static void release_state(struct rummyteak_march_state *state)
+{
+    release((double *)(void *)state);
+}
+
+/* Whether two states are the same, byte by byte. */
+static bool same_state(const struct rummyteak_march_state *a, const struct rummyteak_march_state *b)
+{
+    return memcmp(a, b, sizeof *a) == 0;
+}
+
 /* Both entries on the same input, each into a store of 300 slots: alike, or the one for the cell ends in 15 with the first 256 circles of the other. */
 static void both_marches(const double *section, double tol, double x, double y, uint32_t limit)
 {
     double *large = rank_of(0), *small = rank_of(0);
+    struct rummyteak_march_state *states[3] = {marked_state(), marked_state(), marked_state()};
     size_t count[2] = {77, 77}, edges[2][2] = {{77, 77}, {77, 77}};
     uint32_t units[2] = {77, 77};
     bool found[2] = {false, false};
-    uint32_t n = rummyteak_march(section, RLEN, T, tol, x, y, 0, 1, large, W * 300, limit, &count[0], &units[0], edges[0], &found[0]);
-    uint32_t m = rummyteak_march_cell(section, RLEN, T, tol, x, y, 0, 1, small, W * 300, limit, &count[1], &units[1], edges[1], &found[1]);
+    uint32_t n = rummyteak_march(section, RLEN, T, tol, x, y, 0, 1, large, W * 300, limit, &count[0], &units[0], edges[0], &found[0], states[0]);
+    uint32_t m = rummyteak_march_cell(section, RLEN, T, tol, x, y, 0, 1, small, W * 300, limit, &count[1], &units[1], edges[1], &found[1], states[1]);
     EXPECT(found[0] == found[1] && edges[0][0] == edges[1][0] && edges[0][1] == edges[1][1]);
     if (count[0] <= CELL || n == 3) {
-        EXPECT(n == m && count[0] == count[1] && units[0] == units[1] && same(large, small, W * 300));
+        EXPECT(n == m && count[0] == count[1] && units[0] == units[1] && same(large, small, W * 300) && same_state(states[0], states[1]));
     } else {
         EXPECT(m == 15 && count[1] == CELL && units[1] <= units[0] && same(large, small, W * CELL));
     }
+    EXPECT((n == 14) != same_state(states[0], states[2]) && (m == 14) != same_state(states[1], states[2]));
     EXPECT(count[1] > CELL ? count[1] == 77 : are_nans(small, W * count[1], W * 300));
-    release(large), release(small);
+    release(large), release(small), release_state(states[0]), release_state(states[1]), release_state(states[2]);
 }
 
 static void cell_marches(void)
@@ -401,16 +432,16 @@ static void cell_marches(void)
     both_marches(s, T, 5.5, 0.05, RUMMYTEAK_NO_LIMIT);
     both_marches(r, G, 20, 1, 9);
     both_marches(r, NAN, 4, 1, 9);
-    EXPECT(rummyteak_march_cell(s, RLEN, T, T, 6.482, 0.05, 0, 1, store, W * 300, 510, &count, &units, edges, &found) == 0);
+    EXPECT(rummyteak_march_cell(s, RLEN, T, T, 6.482, 0.05, 0, 1, store, W * 300, 510, &count, &units, edges, &found, &aside) == 0);
     EXPECT(count == 256 && units == 510 && found && edges[0] == 0 && edges[1] == 2 && are_nans(store, W * CELL, W * 300));
-    EXPECT(rummyteak_march_cell(s, RLEN, T, T, 6.484, 0.05, 0, 1, store, W * 300, 512, &count, &units, edges, &found) == 15);
+    EXPECT(rummyteak_march_cell(s, RLEN, T, T, 6.484, 0.05, 0, 1, store, W * 300, 512, &count, &units, edges, &found, &aside) == 15);
     EXPECT(count == 256 && units == 512 && are_nans(store, W * CELL, W * 300));
-    EXPECT(rummyteak_march(s, RLEN, T, T, 6.484, 0.05, 0, 1, store, W * 300, 512, &count, &units, edges, &found) == 0 && count == 257 && units == 512);
-    EXPECT(rummyteak_march_cell(r, RLEN, T, G, 4, 1, 0, 1, none, W - 1, 9, &count, &units, edges, &found) == 15 && count == 0 && units == 0);
-    EXPECT(rummyteak_march_cell(r, RLEN, T, G, 20, 1, 0, 1, none, W - 1, 9, &count, &units, edges, &found) == 8 && !found && count == 0);
+    EXPECT(rummyteak_march(s, RLEN, T, T, 6.484, 0.05, 0, 1, store, W * 300, 512, &count, &units, edges, &found, &aside) == 0 && count == 257 && units == 512);
+    EXPECT(rummyteak_march_cell(r, RLEN, T, G, 4, 1, 0, 1, none, W - 1, 9, &count, &units, edges, &found, &aside) == 15 && count == 0 && units == 0);
+    EXPECT(rummyteak_march_cell(r, RLEN, T, G, 20, 1, 0, 1, none, W - 1, 9, &count, &units, edges, &found, &aside) == 8 && !found && count == 0);
     count = 77, units = 77;
-    EXPECT(rummyteak_march_cell(r, RLEN, G, T, 4, 1, 0, 1, none, W - 1, 9, &count, &units, edges, &found) == 23);
-    EXPECT(rummyteak_march_cell(r, RLEN - 1, T, G, 4, 1, 0, 1, none, W - 1, 9, &count, &units, edges, &found) == 1);
+    EXPECT(rummyteak_march_cell(r, RLEN, G, T, 4, 1, 0, 1, none, W - 1, 9, &count, &units, edges, &found, &aside) == 23);
+    EXPECT(rummyteak_march_cell(r, RLEN - 1, T, G, 4, 1, 0, 1, none, W - 1, 9, &count, &units, edges, &found, &aside) == 1);
     EXPECT(count == 77 && units == 77 && untouched(none, 0, W - 1));
     release(r), release(s), release(none), release(store);
 }
@@ -424,9 +455,9 @@ static void one_again(const double *section, size_t section_len, double tol, dou
     uint32_t units = 77, number;
     bool found;
     if (cell) {
-        EXPECT(rummyteak_march_cell(section, section_len, T, tol, x, y, 0, dy, old, W * slots, first, &count, &units, edges, &found) == ending);
+        EXPECT(rummyteak_march_cell(section, section_len, T, tol, x, y, 0, dy, old, W * slots, first, &count, &units, edges, &found, &aside) == ending);
     } else {
-        EXPECT(rummyteak_march(section, section_len, T, tol, x, y, 0, dy, old, W * slots, first, &count, &units, edges, &found) == ending);
+        EXPECT(rummyteak_march(section, section_len, T, tol, x, y, 0, dy, old, W * slots, first, &count, &units, edges, &found, &aside) == ending);
     }
     EXPECT(count == circles);
     memcpy(list, old, W * 300 * sizeof *list);
@@ -462,7 +493,7 @@ static void offered_again(void)
     one_again(s, RLEN, T, 5.5, 0.05, 1, 300, RUMMYTEAK_NO_LIMIT, true, 15, 256);
     one_again(s, RLEN, T, 5.5, 0.05, 1, 300, RUMMYTEAK_NO_LIMIT, false, 15, 300);
     /* a list of 300 for the cell: its 257th circle is 15, with the unit of its trial; the list may be longer than the cell's store */
-    EXPECT(rummyteak_march(s, RLEN, T, T, 5.5, 0.05, 0, 1, large, W * 300, RUMMYTEAK_NO_LIMIT, &count, &units, edges, &found) == 15 && count == 300);
+    EXPECT(rummyteak_march(s, RLEN, T, T, 5.5, 0.05, 0, 1, large, W * 300, RUMMYTEAK_NO_LIMIT, &count, &units, edges, &found, &aside) == 15 && count == 300);
     EXPECT(rummyteak_refine_all_cell(s, RLEN, T, T, store, W * 300, 0, large, W * 300, 300, 256, &count, &units) == 15 && count == 256 && units == 256);
     EXPECT(same(store, large, W * CELL) && are_nans(store, W * CELL, W * 300));
     EXPECT(rummyteak_refine_all_cell(s, RLEN, T, T, store, W * 300, 0, large, W * 300, 300, 255, &count, &units) == 14 && count == 256 && units == 255);
@@ -607,7 +638,7 @@ static void thinnings(void)
     size_t count = 77, edges[2];
     uint32_t units = 77;
     bool found, added;
-    EXPECT(rummyteak_march(r, RLEN, T, G, 4, 1, 0, 1, old, W * 300, RUMMYTEAK_NO_LIMIT, &count, &units, edges, &found) == 0 && count == 52);
+    EXPECT(rummyteak_march(r, RLEN, T, G, 4, 1, 0, 1, old, W * 300, RUMMYTEAK_NO_LIMIT, &count, &units, edges, &found, &aside) == 0 && count == 52);
     for (int k = 0; k < 2; k++) {
         size_t stated = k ? 6 : 52;
         const double *from = k ? list : old;
@@ -641,6 +672,356 @@ static void thinnings(void)
     }
     EXPECT(rummyteak_thin(r, RLEN, T, G, NULL, 0, 0, 0, &count, &units) == 0 && count == 0 && units == 0);
     release(r), release(old), release(circle);
+}
+
+/* A march that is cut into pieces: its section, general tolerance and line, the slots of its store, and how it ends where nothing cuts it; and what is lent to each piece. */
+struct cut {
+    const double *section;
+    size_t section_len;
+    double tol, line[4];
+    size_t slots;
+    uint32_t number;
+    size_t count;
+    uint32_t units;
+    double *points, *store;
+    struct rummyteak_march_state *state, *marks;
+};
+
+static void lend(struct cut *m)
+{
+    m->points = copy(m->section, m->section_len), m->store = marked(W * m->slots);
+    m->state = marked_state(), m->marks = marked_state();
+}
+
+static void give_back(struct cut *m)
+{
+    release(m->points), release(m->store), release_state(m->state), release_state(m->marks);
+}
+
+/* What a piece leaves: what it returned and wrote, the slots that were lent, and the state. */
+struct left {
+    uint32_t number;
+    size_t count;
+    uint32_t units;
+    double store[W * 300];
+    struct rummyteak_march_state state;
+};
+
+static void keep(const struct cut *m, struct left *left, uint32_t number, size_t count, uint32_t units)
+{
+    left->number = number, left->count = count, left->units = units, left->state = *m->state;
+    memcpy(left->store, m->store, W * m->slots * sizeof *m->store);
+}
+
+/* The march within a limit, by either entry. A state that it doesn't write stays as it was. */
+static void begun(const struct cut *m, bool cell, uint32_t limit, struct left *left)
+{
+    const double *l = m->line;
+    size_t count = 77, edges[2] = {77, 77};
+    uint32_t units = 77, number;
+    bool found = false;
+    fill_with_nans(m->store, 0, W * m->slots);
+    *m->state = *m->marks;
+    if (cell) {
+        number = rummyteak_march_cell(m->points, m->section_len, T, m->tol, l[0], l[1], l[2], l[3], m->store, W * m->slots, limit, &count, &units, edges, &found, m->state);
+    } else {
+        number = rummyteak_march(m->points, m->section_len, T, m->tol, l[0], l[1], l[2], l[3], m->store, W * m->slots, limit, &count, &units, edges, &found, m->state);
+    }
+    EXPECT(found && (number == 14) != same_state(m->state, m->marks));
+    keep(m, left, number, count, units);
+}
+
+/* The next piece, from what the one before left. */
+static void gone_on(const struct cut *m, bool cell, uint32_t limit, const struct left *before, struct left *left)
+{
+    size_t count = 77;
+    uint32_t units = 77, number;
+    memcpy(m->store, before->store, W * m->slots * sizeof *m->store);
+    *m->state = before->state;
+    if (cell) {
+        number = rummyteak_go_on_cell(m->points, m->section_len, T, m->tol, m->store, W * m->slots, before->count, m->state, limit, &count, &units);
+    } else {
+        number = rummyteak_go_on(m->points, m->section_len, T, m->tol, m->store, W * m->slots, before->count, m->state, limit, &count, &units);
+    }
+    EXPECT(units <= limit && (number == 14 || same_state(m->state, &before->state)));
+    keep(m, left, number, count, units);
+}
+
+/* Whether a piece, with so many units before it, ends as the one march does: number, count, the sum of the units, every bit of the store, and every byte of the state where it is spent. */
+static bool as_one(const struct cut *m, const struct left *one, const struct left *piece, uint32_t before)
+{
+    return one->number == piece->number && one->count == piece->count && one->units == before + piece->units && same(one->store, piece->store, W * m->slots) && (one->number != 14 || same_state(&one->state, &piece->state));
+}
+
+/* Cut at every limit, and gone on with every second one up to a little more than its units; then, in three pieces, with every third one too. */
+static void cut_everywhere(struct cut *m, bool cell, bool in_three)
+{
+    struct left *one = calloc(m->units + 3, sizeof *one), *second = calloc(1, sizeof *second), *third = calloc(1, sizeof *third);
+    if (!one || !second || !third)
+        exit(2);
+    lend(m);
+    for (uint32_t limit = 0; limit < m->units + 3; limit++) {
+        begun(m, cell, limit, &one[limit]);
+        EXPECT(one[limit].number == (limit < m->units ? 14 : m->number) && one[limit].units == (limit < m->units ? limit : m->units));
+        EXPECT(limit < m->units || one[limit].count == m->count);
+    }
+    for (uint32_t a = 0; a < m->units; a++) {
+        for (uint32_t b = 0; a + b < m->units + 3; b++) {
+            gone_on(m, cell, b, &one[a], second);
+            EXPECT(as_one(m, &one[a + b], second, a));
+            for (uint32_t c = 0; in_three && second->number == 14 && a + b + c < m->units + 3; c++) {
+                gone_on(m, cell, c, second, third);
+                EXPECT(as_one(m, &one[a + b + c], third, a + b));
+            }
+        }
+        gone_on(m, cell, RUMMYTEAK_NO_LIMIT - a, &one[a], second);
+        EXPECT(as_one(m, &one[m->units], second, a));
+    }
+    give_back(m);
+    free(one), free(second), free(third);
+}
+
+/* On (0,-4) (0,4) (-4,1) up to four circles wait; on the other section each fraction of a step is due at some limit, and up to four wait. */
+static const double CORNER[] = {0, -4, 0, 4, -4, 1, 0, -4}, STEPS[] = {-2, -3, 4, -1, 2, -1, 3, 1, -4, 1, -3, -4, -2, -3}, STRIP[] = {0, 0, 8, 0, 8, 0.1, 0, 0.1, 0, 0};
+
+static void marches_cut(void)
+{
+    struct cut corner = {.section = CORNER, .section_len = 8, .tol = 0.1, .line = {-2, 1, -2, 2}, .slots = 21, .number = 0, .count = 19, .units = 36};
+    struct cut full = {.section = CORNER, .section_len = 8, .tol = 0.1, .line = {-2, 1, -2, 2}, .slots = 10, .number = 15, .count = 10, .units = 20};
+    struct cut steps = {.section = STEPS, .section_len = 14, .tol = 0.05, .line = {1, 2, 2, 2}, .slots = 24, .number = 13, .count = 22, .units = 46};
+    struct cut whole = {.section = R, .section_len = RLEN, .tol = G, .line = {4, 1, 0, 1}, .slots = 54, .number = 0, .count = 52, .units = 102};
+    struct cut strip = {.section = STRIP, .section_len = RLEN, .tol = T, .line = {6.484, 0.05, 0, 1}, .slots = 300, .number = 0, .count = 257, .units = 512};
+    struct left *one = calloc(1, sizeof *one), *second = calloc(1, sizeof *second), *third = calloc(1, sizeof *third);
+    unsigned fractions = 0, waiting = 0;
+    if (!one || !second || !third)
+        exit(2);
+    for (int cell = 0; cell < 2; cell++) {
+        cut_everywhere(&corner, cell, true), cut_everywhere(&steps, cell, true);
+        cut_everywhere(&full, cell, true), cut_everywhere(&whole, cell, false);
+    }
+    lend(&steps), lend(&strip);
+    for (uint32_t limit = 0; limit < steps.units; limit++) {
+        begun(&steps, false, limit, one);
+        if (one->state.refining) {
+            EXPECT(one->state.refining == 1 && one->state.fraction == 0 && one->state.count > 0);
+            waiting |= 1u << one->state.count;
+        } else {
+            EXPECT(one->state.count == 0);
+            fractions |= 1u << one->state.fraction;
+        }
+        for (size_t i = W * one->state.count; i < W * RUMMYTEAK_WAITING; i++)
+            EXPECT(bits(one->state.waiting[i]) == 0);
+    }
+    EXPECT(fractions == 0xf && waiting == 0x1e);
+    /* the cell's slots in pieces: the 257th circle is 15 there, at whatever limit it was cut before */
+    for (uint32_t a = 0; a < 512; a += a < 500 ? 250 : 3) {
+        begun(&strip, true, a, one), begun(&strip, false, a, second);
+        EXPECT(one->number == 14 && as_one(&strip, one, second, 0));
+        gone_on(&strip, true, RUMMYTEAK_NO_LIMIT - a, one, second);
+        EXPECT(second->number == 15 && second->count == 256 && second->units == 512 - a && are_nans(second->store, W * CELL, W * 300));
+        gone_on(&strip, true, 511 - a, one, second);
+        EXPECT(second->number == 14 && second->count == 256);
+        gone_on(&strip, false, 512 - a, one, third);
+        EXPECT(third->number == 0 && third->count == 257 && third->units == 512 - a);
+        gone_on(&strip, false, 1, second, third);
+        EXPECT(third->number == 0 && third->count == 257 && third->units == 1);
+    }
+    give_back(&steps), give_back(&strip);
+    free(one), free(second), free(third);
+}
+
+/* A state made by hand: circles that R has on upright lines wait, each 1/256 to the right of the one before, behind them NaNs. */
+static void by_hand(struct rummyteak_march_state *state, uint64_t refining, uint64_t fraction, uint64_t count)
+{
+    double waiting[W * RUMMYTEAK_WAITING];
+    fill_with_nans(waiting, 0, W * RUMMYTEAK_WAITING);
+    for (size_t k = 0; k < count && k < RUMMYTEAK_WAITING; k++)
+        upright(3 + (double)k / 256, waiting + W * k);
+    state->refining = refining, state->fraction = fraction, state->count = count;
+    memcpy(state->waiting, waiting, sizeof waiting);
+}
+
+/* Both entries refuse a going on by one number, and write nothing. */
+static void refused(uint32_t number, const double *section, size_t section_len, double section_tol, double tol, const double *circles, size_t slots, size_t stated, const struct rummyteak_march_state *state, int line)
+{
+    double *store = copy(circles, W * slots);
+    struct rummyteak_march_state *lent_state = marked_state();
+    size_t count = 77;
+    uint32_t units = 77;
+    *lent_state = *state;
+    expect(rummyteak_go_on(section, section_len, section_tol, tol, store, W * slots, stated, lent_state, 9, &count, &units) == number, "the number", line);
+    expect(rummyteak_go_on_cell(section, section_len, section_tol, tol, store, W * slots, stated, lent_state, 9, &count, &units) == number, "the number for the cell", line);
+    expect(count == 77 && units == 77 && same(store, circles, W * slots) && same_state(lent_state, state), "nothing is written", line);
+    release(store), release_state(lent_state);
+}
+
+#define REFUSED(number, ...) refused(number, __VA_ARGS__, __LINE__)
+
+static void states_refused(void)
+{
+    double *r = copy(R, RLEN), *two = rank_of(2), *many = rank_of(257), *bad = rank_of(2), *none = rank_of(0);
+    struct rummyteak_march_state *good = marked_state(), *state = marked_state();
+    size_t count = 77;
+    uint32_t units = 77;
+    by_hand(good, 1, 0, 3);
+    bad[W + 2] = -1;
+    /* more than 64 waiting; none while refining, one while advancing; no circle in use; a fraction above 3 while advancing */
+    for (uint64_t refining = 0; refining < 2; refining++)
+        for (uint64_t n = 65; n; n = n == 65 ? UINT64_C(1) << 32 : n == UINT64_C(1) << 32 ? UINT64_MAX : 0)
+            by_hand(state, refining, 0, n), REFUSED(27, r, RLEN, T, G, two, 300, 2, state);
+    by_hand(state, 1, 0, 0), REFUSED(27, r, RLEN, T, G, two, 300, 2, state);
+    by_hand(state, 0, 0, 1), REFUSED(27, r, RLEN, T, G, two, 300, 2, state);
+    REFUSED(27, r, RLEN, T, G, two, 300, 0, good);
+    by_hand(state, 0, 0, 0), REFUSED(27, r, RLEN, T, G, two, 300, 0, state);
+    for (uint64_t fraction = 4; fraction; fraction = fraction == 4 ? UINT64_C(1) << 32 : fraction == UINT64_C(1) << 32 ? UINT64_MAX : 0)
+        by_hand(state, 0, fraction, 0), REFUSED(27, r, RLEN, T, G, two, 300, 2, state);
+    /* a bad number at any place of the first, the middle or the last waiting circle; below zero at a radius or a length along */
+    for (size_t n = 1; n <= RUMMYTEAK_WAITING; n += 63)
+        for (size_t k = 0; k < n; k += n == 1 ? 1 : 21)
+            for (size_t i = 0; i < W; i++)
+                for (int v = 0; v < 5; v++) {
+                    static const double values[] = {NAN, INFINITY, -INFINITY, -1, -5e-324};
+                    by_hand(state, 1, 0, n);
+                    state->waiting[W * k + i] = values[v];
+                    if (v < 3 || i == 2 || i > 6)
+                        REFUSED(27, r, RLEN, T, G, two, 300, 2, state);
+                }
+    /* in order 1, 2, 3, 23, 4, 27, 6: each with all that is tested behind it wrong too */
+    by_hand(state, 0, 4, 1);
+    REFUSED(1, r, RLEN - 1, NAN, NAN, bad, 2, 3, state);
+    REFUSED(1, NULL, 0, T, G, none, 0, 1, state);
+    REFUSED(2, r, RLEN, T, NAN, bad, 2, 3, state);
+    REFUSED(3, r, RLEN, T, NAN, two, 2, 3, state);
+    REFUSED(23, r, RLEN, 3, 2, two, 2, 3, state);
+    REFUSED(4, r, RLEN, 2, 2, two, 2, 3, state);
+    REFUSED(4, r, RLEN, T, G, two, 2, SIZE_MAX, state);
+    REFUSED(27, r, RLEN, 2, 2, two, 2, 2, state);
+    REFUSED(6, r, RLEN, 2, 2, two, 2, 2, good);
+    REFUSED(4, r, RLEN, 2, 2, two, 2, 3, good);
+    REFUSED(4, r, RLEN, T, G, none, 0, 1, state);
+    REFUSED(27, r, RLEN, T, G, none, 0, 0, good);
+    /* a stated count of 257 is 4 for the cell before the state is looked at */
+    EXPECT(rummyteak_go_on_cell(r, RLEN, T, G, many, W * 300, 257, state, 0, &count, &units) == 4);
+    EXPECT(rummyteak_go_on(r, RLEN, T, G, many, W * 300, 257, state, 0, &count, &units) == 27);
+    EXPECT(rummyteak_go_on_cell(r, RLEN, T, G, many, W * 300, 257, good, 0, &count, &units) == 4 && count == 77 && units == 77);
+    EXPECT(rummyteak_go_on(r, RLEN, T, G, many, W * 300, 257, good, 0, &count, &units) == 14 && count == 257 && units == 0);
+    EXPECT(are_nans(many, W * 257, W * 300));
+    release(r), release(two), release(many), release(bad), release(none), release_state(good), release_state(state);
+}
+
+/* States made by hand that are taken. */
+static void states_taken(void)
+{
+    const double small[2 * W] = {4, 0.5, 0.5, 4, 0, 4, 1, 4, 14, 5, 1.00048828125, 0.99951171875, 5, 0, 5, 2, 5, 13};
+    double *r = copy(R, RLEN), *store = rank_of(0), *old = rank_of(2);
+    struct rummyteak_march_state *state = marked_state(), *other = marked_state(), *want = marked_state();
+    size_t count = 77, all = 77;
+    uint32_t units = 77;
+    /* any number but 0 is refining, whatever its bytes; the fraction is not read then, and comes back 0; nor are the slots behind, which come back +0 */
+    for (uint32_t limit = 0; limit < 8; limit++) {
+        static const uint64_t yes[] = {1, 2, 0x100, 0xffffffff, UINT64_C(1) << 32, UINT64_C(1) << 63, UINT64_MAX};
+        for (size_t k = 0; k < sizeof yes / sizeof *yes; k++) {
+            memcpy(store, old, W * 300 * sizeof *store);
+            by_hand(state, yes[k], k ? UINT64_MAX - k : 0, 3);
+            uint32_t number = rummyteak_go_on(r, RLEN, T, G, store, W * 300, 2, state, limit, &count, &units);
+            EXPECT(number == 14 && units == limit && state->refining <= 1 && (state->refining == 1) == (state->count > 0) && (!state->refining || state->fraction == 0));
+            for (size_t i = W * state->count; i < W * RUMMYTEAK_WAITING; i++)
+                EXPECT(bits(state->waiting[i]) == 0);
+            if (!k)
+                *want = *state, all = count;
+            EXPECT(same_state(state, want) && count == all);
+        }
+        by_hand(state, 1, 0, 3);
+        EXPECT(limit || (count == 2 && state->count == 3 && same(want->waiting, state->waiting, 3 * W)));
+    }
+    /* while advancing nothing of the waiting slots is read */
+    for (uint64_t fraction = 0; fraction < 4; fraction++) {
+        memcpy(store, old, W * 300 * sizeof *store);
+        by_hand(state, 0, fraction, 0), by_hand(want, 0, fraction, 0);
+        memset(want->waiting, 0, sizeof want->waiting);
+        EXPECT(rummyteak_go_on(r, RLEN, T, G, store, W * 300, 2, state, 0, &count, &units) == 14 && count == 2 && units == 0 && same_state(state, want));
+    }
+    /* -0 passes the test of 2 */
+    by_hand(state, 1, 0, 1);
+    state->waiting[2] = state->waiting[7] = state->waiting[8] = -0.0;
+    EXPECT(rummyteak_go_on_cell(r, RLEN, T, G, store, W * 300, 2, state, 0, &count, &units) == 14 && bits(state->waiting[7]) == bits(-0.0));
+    /* a fraction is due whose step is below the tolerance: an end without a unit, where a smaller fraction's step passes */
+    upright(4, store);
+    for (uint64_t fraction = 0; fraction < 4; fraction++) {
+        by_hand(state, 0, fraction, 0), by_hand(want, 0, fraction, 0);
+        EXPECT(rummyteak_go_on(r, RLEN, T, 0.1, store, W * 300, 1, state, 0, &count, &units) == (fraction ? 0 : 14) && count == 1 && units == 0);
+        EXPECT(!fraction || same_state(state, want));
+        EXPECT(rummyteak_go_on_cell(r, RLEN, T, 0.1, store, W * 300, 1, want, 0, &count, &units) == (fraction ? 0 : 14) && count == 1 && units == 0 && same_state(state, want));
+    }
+    /* advancing may be refused without a unit, as refining never is */
+    memcpy(store, PAIR, W * sizeof *store);
+    store[6] = 0;
+    by_hand(state, 0, 0, 0), *want = *state;
+    EXPECT(rummyteak_go_on(r, RLEN, T, G, store, W * 300, 1, state, 0, &count, &units) == 11 && count == 1 && units == 0 && same_state(state, want));
+    by_hand(state, 1, 0, 1);
+    EXPECT(rummyteak_go_on(r, RLEN, T, G, store, W * 300, 1, state, 0, &count, &units) == 14 && count == 1 && units == 0);
+    /* 64 may wait: where a trial then adds it is 16, with its unit */
+    for (uint64_t n = 62; n < 65; n++)
+        for (uint32_t limit = 0; limit < 5; limit++)
+            for (int cell = 0; cell < 2; cell++) {
+                uint32_t spent_at = (uint32_t)(64 - n);
+                memcpy(store, small, W * sizeof *store);
+                by_hand(state, 1, 0, n);
+                for (size_t k = 0; k < n; k++)
+                    memcpy(state->waiting + W * k, small + W, W * sizeof *small);
+                *want = *state;
+                uint32_t number = cell ? rummyteak_go_on_cell(r, RLEN, T, G, store, W * 300, 1, state, limit, &count, &units) : rummyteak_go_on(r, RLEN, T, G, store, W * 300, 1, state, limit, &count, &units);
+                EXPECT(number == (limit <= spent_at ? 14 : 16) && units == (limit <= spent_at ? limit : spent_at + 1) && count == 1 && same(store, small, W));
+                EXPECT(number == 14 ? state->count == n + limit : same_state(state, want));
+            }
+    /* 10, 11, 12 in the first trial, and 15 where its circle has no slot: with its unit, and the state stays */
+    const double far_off[] = {6, -5, 4, 1, -8, 3, 4, -4, 6, -5}, far_circle[W] = {6e28, 0, 1, 0, 0, 2, 0, 20, 8};
+    double *far_section = copy(far_off, RLEN);
+    for (int k = 0; k < 4; k++) {
+        const double wide = k == 2 ? 1.7e308 : 0, third[W] = {4, 1, 1, 0, -wide, 0, wide, 4, 14};
+        memcpy(store, old, W * 300 * sizeof *store);
+        by_hand(state, 1, 0, 1);
+        if (!k)
+            memcpy(store, far_circle, sizeof far_circle), memcpy(store + W, far_circle, sizeof far_circle), memcpy(state->waiting, far_circle, sizeof far_circle);
+        if (k == 1 || k == 2)
+            memcpy(state->waiting, third, sizeof third);
+        *other = *state;
+        for (uint32_t limit = 1; limit < 3; limit++) {
+            EXPECT(rummyteak_go_on(k ? r : far_section, RLEN, T, G, store, W * (k == 3 ? 2 : 300), 2, state, limit, &count, &units) == (k == 3 ? 15 : 10 + (uint32_t)k) && count == 2 && units == 1 && same_state(state, other));
+            EXPECT(rummyteak_go_on_cell(k ? r : far_section, RLEN, T, G, store, W * (k == 3 ? 2 : 300), 2, state, limit, &count, &units) == (k == 3 ? 15 : 10 + (uint32_t)k) && count == 2 && units == 1 && same_state(state, other));
+        }
+        EXPECT(are_nans(store, W * 2, W * 300));
+    }
+    release(far_section);
+    /* 256 circles in use: the next is 15 for the cell, and accepted by the other entry */
+    double *many = rank_of(256);
+    by_hand(state, 1, 0, 1), *other = *state;
+    upright(1 + 255.0 / 256, state->waiting);
+    *other = *state;
+    EXPECT(rummyteak_go_on_cell(r, RLEN, T, G, many, W * 300, 256, state, 9, &count, &units) == 15 && count == 256 && units == 1 && same_state(state, other) && are_nans(many, W * 256, W * 300));
+    EXPECT(rummyteak_go_on_cell(r, RLEN, T, G, many, W * 300, 255, state, 1, &count, &units) == 14 && count == 256 && units == 1 && state->refining == 0 && state->fraction == 0);
+    EXPECT(rummyteak_go_on(r, RLEN, T, G, many, W * 300, 256, other, 1, &count, &units) == 14 && count == 257 && units == 1 && same_state(state, other) && same(many + W * 255, many + W * 256, W));
+    EXPECT(are_nans(many, W * 257, W * 300));
+    release(many);
+    /* the state of another section is taken as one made by hand is */
+    size_t edges[2];
+    bool found;
+    EXPECT(rummyteak_march(STRIP, RLEN, T, T, 5.5, 0.05, 0, 1, store, W * 300, 9, &count, &units, edges, &found, want) == 14 && want->count == 1);
+    for (uint32_t limit = 0; limit < 40; limit++) {
+        *state = *want;
+        memcpy(store, old, W * 300 * sizeof *store);
+        EXPECT(rummyteak_go_on(r, RLEN, T, G, store, W * 300, 2, state, limit, &count, &units) == 14 && units == limit && count >= 2 && count <= 2 + limit);
+        EXPECT(same(store, old, W * 2) && are_nans(store, W * count, W * 300) && (limit || same_state(state, want)));
+    }
+    EXPECT(count == 21 && rummyteak_go_on(r, RLEN, T, G, store, W * 300, count, state, RUMMYTEAK_NO_LIMIT, &count, &units) == 15 && count == 300 && same(store, old, W * 2));
+    /* where the march is over the state is still the one that was handed in: gone on with once more, it gives two circles that are no part of the march */
+    EXPECT(rummyteak_march_cell(r, RLEN, T, G, 4, 1, 0, 1, store, W * 300, 99, &count, &units, edges, &found, state) == 14 && count == 50);
+    *want = *state;
+    EXPECT(rummyteak_go_on_cell(r, RLEN, T, G, store, W * 300, 50, state, 9, &count, &units) == 0 && count == 52 && units == 3 && same_state(state, want));
+    EXPECT(rummyteak_go_on_cell(r, RLEN, T, G, store, W * 300, 52, state, 9, &count, &units) == 0 && count == 54 && units == 3 && same_state(state, want));
+    EXPECT(rummyteak_go_on(r, RLEN, T, G, store, W * 300, 50, state, 9, &count, &units) == 0 && count == 52 && units == 3 && same_state(state, want));
+    EXPECT(rummyteak_go_on(r, RLEN, T, G, store, W * 300, 52, state, 9, &count, &units) == 0 && count == 54 && units == 3 && same_state(state, want));
+    release(r), release(store), release(old), release_state(state), release_state(other), release_state(want);
 }
 
 static void lists(void)
@@ -1020,6 +1401,9 @@ int main(void)
     offers_refused();
     thinnings();
     thinnings_refused();
+    marches_cut();
+    states_refused();
+    states_taken();
     lists();
     curves();
     orientation();

@@ -16,7 +16,7 @@ ROOT = Path(__file__).resolve().parents[1]
 sys.path.insert(0, str(ROOT / "python"))
 
 import rummyteak as rt  # noqa: E402
-from rummyteak._library import _arguments, call  # noqa: E402
+from rummyteak._library import StateCells, _arguments, call  # noqa: E402
 
 # Checksums over generated inputs, and single steps that the C interface doesn't have.
 LEFT_OUT = {"sample", "roots", "rot90", "normalize", "halfway", "intersection_param", "closest_on_edge", "end_camber_ray", "isqrt_u64", "isqrt_u32", "index_of_tmax_of"}
@@ -29,16 +29,18 @@ NAMES = {name[len("orient_") :]: name for name in _arguments if name.startswith(
 
 # What is handed to a function in C: S section, K store, R output, t and g tolerances, x p l a number, a point or vector and a line among the arguments, a b circles there, n the count or
 # place, y yes or no, u the limit. Then where the answer goes: a digit is so many numbers of the output, C a circle; N and B and U are told, in this order. E is the two
-# edges of a crossing, and F whether they were found. Q is the list that is offered, and m how many of its circles are. Of a split T is two counts, V two yes or no, G two more counts, all told as the table tells a split.
+# edges of a crossing, and F whether they were found. X is the state of a march, read or written. Q is the list that is offered, and m how many of its circles are. Of a split T is two
+# counts, V two yes or no, G two more counts, all told as the table tells a split.
 IN_C = {
     "sqrt": "x 1", "from_points": "S t y R N B", "reversed": "S t R N B", "is_closed": "S t B", "length": "S t 1",
     "at_front": "S t 5 N", "at_back": "S t 5 N", "at_vertex": "S t n 5 N", "at_length": "S t x 5 N", "at_closest_to_point": "S t p 5 N",
     "between_lengths": "S t p R N B N", "split_open_at_length": "S t x R K T V G", "split_closed_at_lengths": "S t p R K T V G",
     "length_along": "S t n x 1", "crossing_line": "S t l 4 E", "joined_crossing": "S t l 4 E",
     "inscribed_from_crossing": "S t g l C", "try_inscribed": "S t g l C E", "inscribed_refined": "S t g a b C B",
-    "refine_and_push": "S t g K n a u N U", "march": "S t g l K u N U E F", "extract_circles": "S t g l K u N U",
+    "refine_and_push": "S t g K n a u N U", "march": "S t g l K u N U E F X", "extract_circles": "S t g l K u N U",
     "refine_all": "S t g K n Q m u N U", "refine_all_cell": "S t g K n Q m u N U",
-    "refine_and_push_cell": "S t g K n a u N U", "march_cell": "S t g l K u N U E F",
+    "refine_and_push_cell": "S t g K n a u N U", "march_cell": "S t g l K u N U E F X",
+    "go_on": "S t g K n X u N U", "go_on_cell": "S t g K n X u N U",
     "thin": "S t g K n u N U",
     "front_and_back": "K n C C", "index_of_tmax": "K n N", "average_spacing": "K n 1", "end_clip_line": "K n 4",
     "reverse_points": "K n", "reverse_order_only": "K n", "reverse_order": "K n", "circles_from": "K n y N N",
@@ -47,7 +49,7 @@ IN_C = {
     "is_open_at_end": "S t g K n y B", "fit_open_edge": "S t g K n y u 2 N U",
 }
 
-# The same in Python: k is the circles, q those that are offered, L a line and P a point as one argument, s the slots, c yes for the cell.
+# The same in Python: k is the circles, q those that are offered, z the state, L a line and P a point as one argument, s the slots, c yes for the cell.
 IN_PYTHON = {
     "sqrt": "x", "from_points": "S t y", "reversed": "S t", "is_closed": "S t", "length": "S t",
     "at_front": "S t", "at_back": "S t", "at_vertex": "S t n", "at_length": "S t x", "at_closest_to_point": "S t p",
@@ -57,6 +59,7 @@ IN_PYTHON = {
     "refine_and_push": "S t g k a u s", "march": "S t g L u s", "extract_circles": "S t g L u s",
     "refine_all": "S t g k q u s", "refine_all_cell": "S t g k q u s c",
     "refine_and_push_cell": "S t g k a u s c", "march_cell": "S t g L u s c",
+    "go_on": "S t g k z u s", "go_on_cell": "S t g k z u s c",
     "thin": "S t g k u",
     "front_and_back": "k", "index_of_tmax": "k", "average_spacing": "k", "end_clip_line": "k",
     "reverse_points": "k", "reverse_order_only": "k", "reverse_order": "k", "circles_from": "k y",
@@ -67,6 +70,7 @@ IN_PYTHON = {
 
 TOLD = 6  # words that are told
 SIZE = 10_000  # numbers of a store or an output at most
+WAITING_NUMBERS = 64 * rt.WIDTH  # numbers of a state
 BAD = (float("nan"), float("inf"), float("-inf"))
 
 
@@ -86,6 +90,21 @@ def bits(numbers) -> bytes:
     return array("d", (x if x == x else BAD[0] for x in numbers)).tobytes()
 
 
+def cells(words, numbers, mark: float = 0.0) -> StateCells:
+    """The state of three whole numbers, words 1 to 3, and of numbers with the mark behind them."""
+    waiting = [*numbers, *[mark] * WAITING_NUMBERS][:WAITING_NUMBERS]
+    return StateCells(whole(words, 1), whole(words, 2), whole(words, 3), tuple(waiting))
+
+
+def written(words) -> StateCells:
+    """The state that a line writes."""
+    return cells(words, map(number, words[5:]), number(words[4]))
+
+
+def state_bits(state: StateCells):
+    return state.refining, state.fraction, state.count, bits(state.waiting)
+
+
 class Table:
     """What the lines have set, and what was told."""
 
@@ -95,13 +114,28 @@ class Table:
         self.list = (ctypes.c_double * SIZE)()
         self.store_len = self.out_len = self.list_len = self.offered = 0
         self.store_mark = self.out_mark = 0.0
-        self.kept = (bytes(self.out), bytes(self.store))
+        self.state = cells("state 12345 12345 12345".split(), [], 12345.0)
+        self.kept = self.left()
+
+    def left(self):
+        """Output, store and state."""
+        return bytes(self.out), bytes(self.store), bytes(self.state)
+
+    def take(self, left) -> None:
+        """Output, store and state as they were left."""
+        self.out, self.store = ((ctypes.c_double * SIZE).from_buffer_copy(numbers) for numbers in left[:2])
+        self.state = StateCells.from_buffer_copy(left[2])
 
     # ---- asking
 
     def circle(self, k: int) -> rt.Inscribed:
         at = 2 + rt.WIDTH * k
         return rt.Inscribed(*self.args[at : at + rt.WIDTH])
+
+    def march_state(self) -> rt.MarchState:
+        """The state as the module has it."""
+        circles = [rt.Inscribed(*self.state.waiting[rt.WIDTH * i : rt.WIDTH * (i + 1)]) for i in range(WAITING_NUMBERS // rt.WIDTH)]
+        return rt.MarchState(bool(self.state.refining), self.state.fraction, tuple((2 * circles)[: self.state.count]))
 
     def handed(self, sign: str, place: int, yes: int, limit: int):
         """The arguments that a sign stands for."""
@@ -110,6 +144,8 @@ class Table:
             return [self.section]
         if sign == "k":
             return [[rt.Inscribed(*self.store[rt.WIDTH * i : rt.WIDTH * (i + 1)]) for i in range(place)]]
+        if sign == "z":
+            return [self.march_state()]
         if sign == "q":
             return [[rt.Inscribed(*self.list[rt.WIDTH * i : rt.WIDTH * (i + 1)]) for i in range(self.offered)]]
         plain = {"t": a[:1], "g": a[1:2], "x": a[2:3], "p": a[2:4], "l": a[2:6], "L": [a[2:6]], "P": [a[2:4], a[4:6]], "n": [place], "m": [self.offered], "y": [yes], "u": [limit]}
@@ -117,23 +153,27 @@ class Table:
         return plain[sign]
 
     def ask(self, name: str, place: int, yes: int, limit: int) -> None:
-        """Asks in C, and the module where it can be asked the same: its functions state no count, and no output, that doesn't fit."""
+        """Asks in C, and the module where it can be asked the same: its functions state no count, and no output, that doesn't fit, and no number of waiting circles without them."""
         name = NAMES.get(name, name)
-        before = bytes(self.store)
+        before = self.left()
         signs = IN_C[name].split()
         fits = (rt.WIDTH * place <= self.store_len or "K" not in signs) and (rt.WIDTH * self.offered <= self.list_len or "Q" not in signs)
+        fits = fits and ("z" not in IN_PYTHON[name].split() or self.state.count < 100)
         again = [x for sign in IN_PYTHON[name].split() for x in self.handed(sign, place, yes, limit)] if fits else None
-        written = self.ask_in_c(name, place, yes, limit)
+        in_c = self.ask_in_c(name, place, yes, limit)
+        is_spent = "X" in signs and self.told[0] == 14
+        assert is_spent or bytes(self.state) == before[2], f"{name} wrote a state"
         if again is None or (self.told[0] == 4 and ("R" in IN_C[name].split() or not fits)):
             return
-        told, numbers, circles = in_python(name, again)
+        told, numbers, circles, state = in_python(name, again)
         wrong = f"{name} in Python"
         assert told == self.told, f"{wrong}: told {told}, not {self.told}"
-        assert bits(numbers) == bits(written), f"{wrong}: other numbers"
+        assert bits(numbers) == bits(in_c), f"{wrong}: other numbers"
+        assert state == (self.march_state() if is_spent else None), f"{wrong}: another state"
         if circles is not None:
             self_bits = bytes(self.store)
             freed = 8 * rt.WIDTH * place if name == "thin" else 8 * len(circles)
-            assert bits(circles) == bits(self.store[: len(circles)]) and self_bits[freed:] == before[freed:], f"{wrong}: other circles"
+            assert bits(circles) == bits(self.store[: len(circles)]) and self_bits[freed:] == before[1][freed:], f"{wrong}: other circles"
             assert not any(self_bits[8 * len(circles) : freed]), f"{wrong}: a slot that is freed is no zero"
 
     def ask_in_c(self, name: str, place: int, yes: int, limit: int):
@@ -154,6 +194,8 @@ class Table:
                 handed.append(edges)
             elif sign in split:
                 handed.append(split[sign])
+            elif sign == "X":
+                handed.append(self.state)
             elif sign == "F":
                 found = ctypes.c_bool()
                 handed.append(found)
@@ -236,8 +278,20 @@ class Table:
     def do_list(self, words):
         self.list, self.list_len, self.offered = (ctypes.c_double * SIZE).from_buffer_copy(self.store), self.store_len, whole(words, 1)
 
+    def do_state(self, words):
+        self.state = written(words)
+
+    def do_waiting(self, words):
+        self.state = cells(words, self.store[:WAITING_NUMBERS])
+
+    def do_holds(self, words):
+        return state_bits(self.state) == state_bits(written(words))
+
+    def do_stays(self, _):
+        return bytes(self.state) == self.kept[2]
+
     def do_keep(self, _=None):
-        self.kept = (bytes(self.out), bytes(self.store))
+        self.kept = self.left()
 
     def do_same(self, words):
         i, j, n = (8 * whole(words, k) for k in (1, 2, 3))
@@ -251,35 +305,36 @@ class Table:
     def do_bad(self, words):
         self.do_keep()
         for at in range(whole(words, 1), whole(words, 2)):
-            held, place = (self.args, at) if at < 100 else (self.section, at - 100) if at < 16500 else (self.store, at - 16500) if at < 30000 else (self.list, at - 30000)
+            begins = ((0, self.args), (100, self.section), (16500, self.store), (30000, self.list), (40000, self.state.waiting))
+            held, place = next((numbers, at - first) for first, numbers in reversed(begins) if first <= at)
             for value in BAD:
                 old, held[place] = held[place], value
                 self.ask(words[4], whole(words, 5), whole(words, 6), 9)
                 held[place] = old
-                if self.told != [whole(words, 3), whole(words, 7)] + [0] * (TOLD - 2) or self.kept != (bytes(self.out), bytes(self.store)):
+                if self.told != [whole(words, 3), whole(words, 7)] + [0] * (TOLD - 2) or self.kept != self.left():
                     return False
 
     def run(self, name, place, yes, limit):
-        """Runs from output and store as they were kept, and returns all that came of it."""
-        self.out, self.store = ((ctypes.c_double * SIZE).from_buffer_copy(k) for k in self.kept)
+        """Runs from output, store and state as they were kept, and returns all that came of it."""
+        self.take(self.kept)
         self.ask(name, place, yes, limit)
-        return list(self.told), bytes(self.out), bytes(self.store)
+        return (list(self.told), *self.left())
 
     def do_limits(self, words, spent="first circles"):
         self.do_keep()
         name, place, yes = words[2], whole(words, 3), whole(words, 4)
         plain = self.run(name, place, yes, rt.NO_LIMIT)
         for limit in range(whole(words, 1), plain[0][2] + 3):
-            told, out, store = self.run(name, place, yes, limit)
+            told, out, store, state = self.run(name, place, yes, limit)
             if limit >= plain[0][2]:
-                if (told, out, store) != plain:
+                if (told, out, store, state) != plain or state != self.kept[2]:
                     return False
                 continue
             used = 8 * rt.WIDTH * told[1]
             left = {
                 "first circles": lambda: store == plain[2][:used] + self.kept[1][used:],
                 "anything": lambda: True,
-                "as before": lambda: told[1] == place and (out, store) == self.kept,
+                "as before": lambda: told[1] == place and (out, store) == self.kept[:2],
             }
             if told[0] != 14 or told[2] != limit or told[3:] != plain[0][3:] or not left[spent]():
                 return False
@@ -296,10 +351,10 @@ class Table:
         plain = self.run(*larger, 0, rt.NO_LIMIT)
         for limit in range(plain[0][2] + 3):
             more, ran = self.run(*larger, 0, limit), self.run(*smaller, 0, limit)
-            (_, count, units, *edges), out, store = more
+            (_, count, units, *edges), out, store, _ = more
             if count > slots:
                 used = 8 * rt.WIDTH * slots
-                more = [15, slots, min(units, ran[0][2]), *edges], out, store[:used] + self.kept[1][used:]
+                more = [15, slots, min(units, ran[0][2]), *edges], out, store[:used] + self.kept[1][used:], self.kept[2]
             if ran != more:
                 return False
 
@@ -307,26 +362,52 @@ class Table:
         self.do_keep()
 
         def but_edges(name, limit):
-            told, out, store = self.run(name, 0, 0, limit)
+            told, out, store, _ = self.run(name, 0, 0, limit)
             return told[:3], out, store
 
         return all(but_edges(words[2], limit) == but_edges(words[3], limit) for limit in range(whole(words, 1)))
 
+    def gone_on(self, name, ran, limit):
+        """Goes on from what a run left. Units add up, and the edges are those of the run before."""
+        (_, count, units, *edges), *left = ran
+        self.take(left)
+        self.ask(name, count, 0, limit)
+        return ([*self.told[:2], units + self.told[2], *edges], *self.left())
+
+    def do_pauses(self, words):
+        if self.do_limits(words) is False:
+            return False
+        end = self.run(words[2], whole(words, 3), 0, rt.NO_LIMIT)[0][2] + 3
+        singles = [self.run(words[2], whole(words, 3), 0, limit) for limit in range(end)]
+        plain = singles[-1]
+
+        def is_single(ran, first, single):
+            return ran[:3] == single[:3] and ran[3] == (single if ran[0][0] == 14 else first)[3]
+
+        for limit in range(whole(words, 1), end):
+            first = singles[limit]
+            for more in range(end - limit if first[0][0] == 14 else 0):
+                ran = self.gone_on(words[4], first, more)
+                if not is_single(ran, first, singles[limit + more]):
+                    return False
+                if ran[0][0] == 14 and not is_single(self.gone_on(words[4], ran, end), ran, plain):
+                    return False
+
 
 def in_python(name: str, handed):
-    """What the module's function answers: what is told, the numbers, and the circles where it leaves some."""
+    """What the module's function answers: what is told, the numbers, the circles where it leaves some, and the state where it hands one out."""
     try:
         answer = getattr(rt, re.sub("_cell$", "", name))(*handed)
     except rt.Refused as refused:
-        return [refused.number] + [0] * (TOLD - 1), [], None
+        return [refused.number] + [0] * (TOLD - 1), [], None, None
     if isinstance(answer, rt.Piece):
-        return [0, len(answer.numbers) // 2, int(answer.is_closed), answer.given, 0, 0], answer.numbers, None
+        return [0, len(answer.numbers) // 2, int(answer.is_closed), answer.given, 0, 0], answer.numbers, None, None
     if name.startswith("split_"):
         a, b = answer
-        return [0, len(a.numbers) // 2, len(b.numbers) // 2, a.given, b.given, a.is_closed + 2 * b.is_closed], [*a.numbers, *b.numbers], None
+        return [0, len(a.numbers) // 2, len(b.numbers) // 2, a.given, b.given, a.is_closed + 2 * b.is_closed], [*a.numbers, *b.numbers], None, None
     edges = getattr(answer, "edges", None)
     told, numbers, circles = answered(name, answer)
-    return told + ([1, *edges] if edges else [0, 0, 0]), numbers, circles
+    return told + ([1, *edges] if edges else [0, 0, 0]), numbers, circles, getattr(answer, "state", None)
 
 
 def answered(name: str, answer):
@@ -371,10 +452,10 @@ class Cases(unittest.TestCase):
             if words[0] == "case":
                 case, passed = text, False
                 continue
-            questions = {"ask": words[1:2], "bad": words[4:5], "limits": words[2:3], "fits": words[2:3], "thins": words[2:3], "agree": words[2:4], "slots": words[2:5:2]}.get(words[0], [])
+            questions = {"ask": words[1:2], "bad": words[4:5], "limits": words[2:3], "fits": words[2:3], "thins": words[2:3], "agree": words[2:4], "slots": words[2:5:2], "pauses": words[2:5:2]}.get(words[0], [])
             if questions or words[0] in LEFT_OUT:
                 passed = bool(LEFT_OUT.intersection([words[0], *questions]))
-            if passed and words[0] not in ("section", "row", "args", "store", "room", "rank", "copies", "list"):
+            if passed and words[0] not in ("section", "row", "args", "store", "room", "rank", "copies", "list", "state", "waiting"):
                 continue
             asked.update(NAMES.get(q, q) for q in questions)
             lines += 1

@@ -31,11 +31,12 @@ ROOT = Path(__file__).resolve().parents[1]
 sys.path.insert(0, str(ROOT / "python"))
 
 import rummyteak as rt  # noqa: E402
-from rummyteak._library import call  # noqa: E402
-from rummyteak.blade import Options, _Steps, worked_out  # noqa: E402
+from rummyteak._library import StateCells, call  # noqa: E402
+from rummyteak.blade import Blade, Options, Paused, _Steps, worked_out  # noqa: E402
 from rummyteak.files import Reading, Unreadable, read  # noqa: E402
 from rummyteak.outputs import put  # noqa: E402
 from rummyteak.report import ADVICE, table  # noqa: E402
+from rummyteak.states import as_state, read_state  # noqa: E402
 
 R = [0, 0, 8, 0, 8, 2, 0, 2, 0, 0]
 U = R[:8]
@@ -343,8 +344,9 @@ class Rows(unittest.TestCase):
             self.assertEqual(call("refine_and_push_cell", section, 10, T, G, store, len(store), stated, circle, 9, count, units), number)
             self.assertEqual((count.value, units.value), (77, 77) if number == 4 else (256, 1))
             self.assertEqual(behind(store), behind(store_of(stated)))
-        count, units, edges, found, store = ctypes.c_size_t(77), ctypes.c_uint32(77), (ctypes.c_size_t * 2)(), ctypes.c_bool(), store_of(0)
-        self.assertEqual(call("march_cell", strip, 10, T, T, 5.5, 0.05, 0, 1, store, len(store), rt.NO_LIMIT, count, units, edges, found), 15)
+        count, units, edges, found, state, store = ctypes.c_size_t(77), ctypes.c_uint32(77), (ctypes.c_size_t * 2)(), ctypes.c_bool(), StateCells(refining=77), store_of(0)
+        self.assertEqual(call("march_cell", strip, 10, T, T, 5.5, 0.05, 0, 1, store, len(store), rt.NO_LIMIT, count, units, edges, found, state), 15)
+        self.assertEqual(bytes(state), bytes(StateCells(refining=77)), "a state is written with 14 alone")
         self.assertEqual((count.value, units.value, found.value, list(edges)), (256, 512, True, [0, 2]))
         self.assertEqual(behind(store), behind(store_of(0)))
 
@@ -393,6 +395,134 @@ class Rows(unittest.TestCase):
             self.refused(number, rt.thin, section, section_tol, tol, circles)
         self.assertEqual(rt.thin(R, T, G, made[:1] * 1024).circles, made[:1] * 2)
 
+
+    STRIP = [0, 0, 8, 0, 8, 0.1, 0, 0.1, 0, 0]
+    # Marches to be cut: section, general tolerance, line, slots, how they end, circles and units. In the second up to four circles wait, and each fraction is due at some limit.
+    CUT = (
+        ([0, -4, 0, 4, -4, 1, 0, -4], 0.1, (-2, 1, -2, 2), None, 0, 19, 36),
+        ([-2, -3, 4, -1, 2, -1, 3, 1, -4, 1, -3, -4, -2, -3], 0.05, (1, 2, 2, 2), None, 13, 22, 46),
+        ([0, -4, 0, 4, -4, 1, 0, -4], 0.1, (-2, 1, -2, 2), 10, 15, 10, 20),
+    )
+
+    @staticmethod
+    def exact(run):
+        """All of a run, its circles and waiting circles by their bits."""
+        return run.number, [list(map(bits, c)) for c in run.circles], run.units, getattr(run, "edges", None), run.state
+
+    def test_marches_cut(self):
+        """A march cut at every limit and gone on with within every second one, and in three pieces, is the march whose limit is the sum."""
+        for section, tol, line, slots, number, found, units in self.CUT:
+            for cell in False, True:
+                one = [rt.march(section, T, tol, line, limit, slots, cell) for limit in range(units + 3)]
+                self.assertEqual((one[-1].number, len(one[-1].circles), one[-1].units, one[-1].state), (number, found, units, None))
+                for a in range(units):
+                    self.assertEqual(len(one[a].state.waiting) > 0, one[a].state.refining)
+                    for b in range(units + 3 - a):
+                        two, want = one[a].go_on(b), one[a + b]
+                        self.assertEqual((two, self.exact(two)), (want, self.exact(want)))
+                        gone = rt.go_on(section, T, tol, one[a].circles, one[a].state, b, slots, cell)
+                        self.assertEqual((gone.number, gone.circles, gone.units, gone.state), (want.number, want.circles, want.units - a, want.state))
+                        for c in {0, 1, units - a - b} if two.number == 14 else ():
+                            self.assertEqual(self.exact(two.go_on(c)), self.exact(one[a + b + c]))
+                            self.assertEqual(gone.go_on(c), rt.GoneOn(one[a + b + c].number, one[a + b + c].circles, one[a + b + c].units - a, one[a + b + c].state), "units are those from where it went on")
+                    self.assertEqual(one[a].go_on(), one[-1])
+                    self.assertEqual(one[a].go_on(rt.NO_LIMIT - a), one[-1])
+                seen = {(s.refining, len(s.waiting), s.fraction) for s in (run.state for run in one) if s}
+                if number == 13:
+                    self.assertEqual(seen, {(False, 0, k) for k in range(4)} | {(True, k, 0) for k in range(1, 5)})
+
+    def test_marches_gone_on_with(self):
+        line = (4, 1, 0, 1)
+        whole, spent = rt.march(R, T, G, line), rt.march(R, T, G, line, 21)
+        self.assertEqual((whole.state, spent.number, spent.edges, str(spent.state)), (None, 14, (0, 2), "refining, 1 waiting"))
+        for over in (whole, rt.march(R, T, G, (20, 1, 0, 1)), rt.march(R, T, G, line, slots=5), spent.go_on()):
+            with self.assertRaisesRegex(ValueError, f"{over.number}: {over.ending}"):
+                over.go_on(5)
+        for unknown in (rt.March(14, spent.circles, 21, (0, 2), spent.state), rt.GoneOn(14, spent.circles, 0, spent.state)):
+            with self.assertRaisesRegex(ValueError, "isn't known"):
+                unknown.go_on(5)
+        # what the march was handed is kept by value, and pickled with it
+        section = array("d", map(float, R))
+        paused = rt.march(section, T, G, line, 21, slots=60, cell=True)
+        section[0] = 1e9
+        for run in (paused, pickle.loads(pickle.dumps(paused)), pickle.loads(pickle.dumps(paused.go_on(0)))):
+            self.assertEqual((run, run.go_on()), (spent, whole))
+            self.assertEqual(run.go_on(40).go_on(41), whole)
+        self.assertNotIn("_handed", repr(paused))
+        # each piece keeps to its own limit where the sum is beyond one, and units add up
+        self.assertEqual(spent.go_on(rt.NO_LIMIT), whole)
+        self.assertEqual(spent.go_on(0).go_on(rt.NO_LIMIT).units, whole.units)
+        # fewer slots, or the cell's, are those of each piece
+        large, small = (rt.march(self.STRIP, T, T, (6.484, 0.05, 0, 1), 400, cell=cell) for cell in (False, True))
+        self.assertEqual((large, large.state), (small, small.state))
+        self.assertEqual([(run.go_on().number, len(run.go_on().circles), run.go_on().units) for run in (large, small)], [(0, 257, 512), (15, 256, 512)])
+        for slots, cell, number, found in ((None, False, 0, 257), (None, True, 15, 256), (300, True, 15, 256), (256, False, 15, 256), (2000, False, 0, 257)):
+            gone = rt.go_on(self.STRIP, T, T, large.circles, large.state, slots=slots, cell=cell)
+            self.assertEqual((gone.number, len(gone.circles), gone.units), (number, found, 112))
+        few = rt.march(R, T, G, line, 8, slots=5)
+        self.assertEqual((few.number, few.go_on(5).number, few.go_on().number, len(few.go_on().circles)), (14, 15, 15, 5))
+
+    def test_states(self):
+        """A state is a value: it doesn't change, is equal by its bits, is pickled and printed, and may be made by hand."""
+        at = lambda x: rt.Inscribed(x, 1.00048828125, 0.99951171875, x, 0.0, x, 2.0, x, 18.0 - x)  # noqa: E731
+        state = rt.MarchState(True, 0, [at(5), [4, 1, 1, 4, 0, 4, 2, 4, 14]])
+        self.assertEqual((state.refining, state.fraction, state.waiting), (True, 0, (at(5), PAIR[0])))
+        self.assertIs(type(state.waiting[1].cx), float)
+        self.assertEqual(eval(repr(state), vars(rt)), state)
+        self.assertEqual((str(state), str(rt.MarchState(False, 2, ())), str(rt.MarchState(False, 9, (at(5),)))), ("refining, 2 waiting", "advancing, fraction 2 due", "advancing, fraction 9 due, 1 waiting"))
+        nan = float("nan")
+        again = pickle.loads(pickle.dumps(state))
+        self.assertEqual((again, hash(again)), (state, hash(state)))
+        with self.assertRaises(AttributeError):
+            state.fraction = 1
+        for other in (
+            rt.MarchState(False, 0, state.waiting), rt.MarchState(True, 1, state.waiting), rt.MarchState(True, 0, state.waiting[:1]), rt.MarchState(True, 0, state.waiting[::-1]),
+            rt.MarchState(True, 0, (at(5), PAIR[0]._replace(p0y=-0.0))), rt.MarchState(True, 0, (at(5), PAIR[0]._replace(p0y=nan))), state.waiting, None,
+        ):
+            self.assertNotEqual(state, other)
+        self.assertEqual(rt.MarchState(True, 0, (PAIR[0]._replace(r=nan),)), rt.MarchState(1, 0, (PAIR[0]._replace(r=nan),)))
+        # refining, a fraction is not read and comes back 0; advancing with a fraction whose step is below the tolerance is an end
+        two = (at(1), at(1 + 1 / 256))
+        for fraction in (0, 3, 4, 2**64 - 1):
+            self.assertEqual(rt.go_on(R, T, G, two, rt.MarchState(True, fraction, (at(5),)), 0), rt.GoneOn(14, two, 0, rt.MarchState(True, 0, (at(5),))))
+        self.assertEqual([rt.go_on(R, T, 0.1, (at(4),), rt.MarchState(False, fraction, ()), 0).number for fraction in range(4)], [14, 0, 0, 0])
+        self.assertEqual(rt.go_on(R, T, G, (PAIR[0]._replace(p1y=0),), rt.MarchState(False, 0, ()), 0), rt.GoneOn(11, (PAIR[0]._replace(p1y=0),), 0, None))
+        # 64 may wait
+        small = rt.Inscribed(4, 0.5, 0.5, 4, 0, 4, 1, 4, 14)
+        for count, limit, number, units in ((64, 0, 14, 0), (64, 1, 16, 1), (63, 1, 14, 1), (63, 2, 16, 2), (62, 2, 14, 2), (62, 9, 16, 3)):
+            gone = rt.go_on(R, T, G, (small,), rt.MarchState(True, 0, (at(5),) * count), limit)
+            self.assertEqual((gone.number, gone.circles, gone.units, gone.state and len(gone.state.waiting)), (number, (small,), units, count + units if number == 14 else None))
+
+    def test_states_refused(self):
+        """27, behind 4 and before 6; a bad state is the library's to refuse."""
+        at = lambda x: rt.Inscribed(x, 1.00048828125, 0.99951171875, x, 0.0, x, 2.0, x, 18.0 - x)  # noqa: E731
+        nan, two = float("nan"), (at(1), at(2))
+        good = rt.MarchState(True, 0, (at(5),))
+        bad = [rt.MarchState(True, 0, ()), rt.MarchState(False, 0, (at(5),)), rt.MarchState(False, 4, ()), rt.MarchState(False, 2**64 - 1, ()), rt.MarchState(True, 0, (at(5),) * 65), rt.MarchState(True, 0, (at(5),) * 1000)]
+        bad += [rt.MarchState(True, 0, (at(5), at(6)._replace(**{name: x}))) for name in rt.Inscribed._fields for x in (nan, float("inf"), -float("inf"))]
+        bad += [rt.MarchState(True, 0, (at(6)._replace(**{name: x}), at(5))) for name in ("r", "l0", "l1") for x in (-1, -5e-324)]
+        worse = (two[0], two[1]._replace(r=-1))
+        for cell in False, True:
+            for state in bad:
+                self.refused(27, lambda: rt.go_on(R, T, G, two, state, cell=cell))
+                self.refused(27, lambda: rt.go_on(R, 2, 2, two, state, cell=cell))
+                for number, section, section_tol, tol, circles in (
+                    (1, R[:3], T, G, worse), (2, R, T, nan, worse), (3, R, T, nan, two), (23, R, G, T, two), (4, R, 2, 2, two[:1] * 1025), (4, R, T, G, two[:1] * 1024 + worse[1:]),
+                ):
+                    self.refused(number, lambda: rt.go_on(section, section_tol, tol, circles, state, cell=cell))
+            for state in (good, rt.MarchState(False, 0, ())):
+                self.refused(27, lambda: rt.go_on(R, T, G, (), state, cell=cell))
+                self.refused(6, lambda: rt.go_on(R, 2, 2, two, state, cell=cell))
+        self.refused(4, lambda: rt.go_on(R, T, G, two[:1] * 257, good, cell=True))
+        self.assertEqual(rt.go_on(R, T, G, two[:1] * 257, good, 0).number, 14)
+        signed = rt.MarchState(True, 0, (at(5)._replace(r=-0.0, l0=-0.0),))
+        self.assertEqual(rt.go_on(R, T, G, two, signed, 0).state, signed, "-0 passes")
+        # of a refusal nothing is written, in the state as little as elsewhere
+        cells, count, units, store = StateCells(2, 5, 65), ctypes.c_size_t(77), ctypes.c_uint32(77), (ctypes.c_double * 18)(*[x for c in two for x in c])
+        before = bytes(cells), bytes(store)
+        for name in "go_on", "go_on_cell":
+            self.assertEqual(call(name, (ctypes.c_double * 10)(*R), 10, T, G, store, 18, 2, cells, 9, count, units), 27)
+            self.assertEqual((bytes(cells), bytes(store), count.value, units.value), (*before, 77, 77))
 
     def test_lists_offered_again(self):
         """The circles of one march, whichever way it ended, are the same list for one unit fewer; within a smaller limit its first circles."""
@@ -519,6 +649,17 @@ class Types(unittest.TestCase):
             (ValueError, rt.thin, R, T, G, PAIR, -1),
             (ValueError, rt.refine_all, R, T, G, (), [(4, 1, 1)]),
             (ValueError, rt.refine_all, R, T, G, (), PAIR, -1),
+            (TypeError, rt.go_on, R, T, G, PAIR, None),
+            (TypeError, rt.go_on, R, T, G, PAIR, (True, 0, PAIR)),
+            (ValueError, rt.go_on, R, T, G, PAIR, rt.MarchState(True, 0, PAIR), -1),
+            (ValueError, rt.go_on, R, T, G, PAIR, rt.MarchState(True, 0, PAIR), 2**32),
+            (ValueError, rt.go_on, R, T, G, [(4, 1, 1)], rt.MarchState(True, 0, PAIR)),
+            (ValueError, rt.MarchState, True, 0, [(4, 1, 1)]),
+            (TypeError, rt.MarchState, True, 0, ["4, 1, 1"]),
+            (TypeError, rt.MarchState, True, 0, [4, 1, 1]),
+            (TypeError, rt.MarchState, True, 0.0, ()),
+            (ValueError, rt.MarchState, True, -1, ()),
+            (ValueError, rt.MarchState, True, 2**64, ()),
             (ValueError, rt.make_camber_curve, (0, 1, 2), (8, 1), PAIR, T),
             (TypeError, rt.shuffle, [0] * 8),
             (ValueError, rt.transpose_words, [0] * 7),
@@ -551,7 +692,7 @@ class Types(unittest.TestCase):
         for wrong in (4 + 0j, Kind("c")):
             for function, *args in (
                 (rt.length, [*R[:-1], wrong], T), (rt.length, [(0, 0), (8, wrong)], T), (rt.length, R, wrong), (rt.at_closest_to_point, R, T, wrong, 1), (rt.crossing_line, R, T, (wrong, 1, 0, 1)),
-                (rt.index_of_tmax, [PAIR[0]._replace(cx=wrong)]), (rt.write_record, [PAIR[0]._replace(l1=wrong)]), (rt.make_camber_curve, (0, wrong), (8, 1), PAIR, T),
+                (rt.index_of_tmax, [PAIR[0]._replace(cx=wrong)]), (rt.write_record, [PAIR[0]._replace(l1=wrong)]), (rt.MarchState, True, 0, [PAIR[0]._replace(l1=wrong)]), (rt.make_camber_curve, (0, wrong), (8, 1), PAIR, T),
             ):
                 with self.subTest(function=function.__name__, wrong=type(wrong)):
                     with self.assertRaisesRegex(TypeError, "complex"):
@@ -712,7 +853,7 @@ class Arithmetic(unittest.TestCase):
 
     def test_every_call(self):
         """Each function is asked so, and a thread that is started in such a thread too."""
-        for function in (lambda: rt.sqrt(2), lambda: rt.march(R, T, G, (4, 1, 0, 1)), lambda: rt.write_record(PAIR), lambda: rt.orient_tmax_fwd(PAIR)):
+        for function in (lambda: rt.sqrt(2), lambda: rt.march(R, T, G, (4, 1, 0, 1)), lambda: rt.go_on(R, T, G, PAIR, rt.MarchState(True, 0, PAIR)), lambda: rt.write_record(PAIR), lambda: rt.orient_tmax_fwd(PAIR)):
             self.assertIsInstance(self.asked_in_a_thread(self.round, self.roundings[0], function), FloatingPointError)
             self.assertIsInstance(self.asked_in_a_thread(self.flush, self.flushes[0], lambda: self.asked_in_a_thread(self.flush, 0, function)), FloatingPointError)
 
@@ -742,6 +883,18 @@ class Header(unittest.TestCase):
         self.assertEqual((self.defined("RUMMYTEAK_POINTS"), self.defined("RUMMYTEAK_CLEANED")), (points, points - 1))
         self.assertEqual(self.defined("RUMMYTEAK_RECORD"), 2 + slots * (2 + 8 * width))
         self.assertEqual(self.defined("RUMMYTEAK_BYTES"), self.constant("MOST_BYTES", "shuffle", "src", "lib.rt"))
+        waiting = self.constant("MOST_WAITING", "refine", "src", "lib.rt")
+        self.assertEqual((self.defined("RUMMYTEAK_WAITING"), rt.WAITING), (waiting, waiting))
+
+    def test_state(self):
+        """A state has the same cells in the crates, the header and the module, at the offsets that the header tells."""
+        crate = re.findall(r"pub (\w+): (.+),", re.search(r"pub struct StateCells \{\n(.*?)\n\}", self.source("rummyteak", "src", "given.rt"), re.DOTALL).group(1))
+        self.assertEqual(crate, [("refining", "usize"), ("fraction", "usize"), ("count", "usize"), ("waiting", "[f64; WAITING_NUMBERS]")])
+        cells = re.findall(r"^    (\w+) (\w+)(\[.*\])?;", re.search(r"struct rummyteak_march_state \{\n(.*?)\n\};", self.header, re.DOTALL).group(1), re.MULTILINE)
+        self.assertEqual(cells, [("uint64_t", "refining", ""), ("uint64_t", "fraction", ""), ("uint64_t", "count", ""), ("double", "waiting", "[RUMMYTEAK_WAITING * RUMMYTEAK_WIDTH]")])
+        self.assertEqual([(name, getattr(StateCells, name).offset, getattr(StateCells, name).size) for name, _ in crate], [("refining", 0, 8), ("fraction", 8, 8), ("count", 16, 8), ("waiting", 24, 4608)])
+        self.assertEqual(ctypes.sizeof(StateCells), 4632)
+        self.assertIn("offset 0, fraction at 8, count at 16 and waiting at 24, 4,632 bytes", re.sub(r"\s*\n \* ", " ", self.header))
 
     def test_endings(self):
         cases = {int(n): name for name, n in re.findall(r"Refusal::(\w+) => (\d+),", self.source("errors", "src", "lib.rt"))}
@@ -757,7 +910,7 @@ class Header(unittest.TestCase):
         self.assertEqual(set(re.findall(r"uint32_t rummyteak_(\w+)\(", self.header)), exports)
         self.assertEqual(set(rt._library._arguments), exports)
         named = {re.sub("_cell$", "", name) for name in exports}
-        self.assertEqual(len(exports - named), 3, "an entry for the cell is the module's function with cell=True")
+        self.assertEqual(len(exports - named), 4, "an entry for the cell is the module's function with cell=True")
         self.assertLessEqual(named, set(rt.__all__))
         called = (ROOT / "tests" / "interface.c").read_text(encoding="utf-8")
         for name in exports:
@@ -1028,6 +1181,12 @@ class Command(unittest.TestCase):
             ("examples/open.dat", "--from", "a", "--lower", "0", "1"), ("examples/open.dat", "--from", "a", "--end", "back"), ("examples/open.dat", "--from", "a", "--cell", "--slots", "257"),
             ("examples/open.dat", "examples/thick.dat", "--from", "a"), ("-", "--from", "-"), ("-", "--from", "/dev/stdin"), ("examples/open.dat", "--from", "a", "--csv", "a"),
             ("examples/open.dat", "--from", "a", "--record", "./a"),
+            ("examples/open.dat", "--state", "a"), ("examples/open.dat", "--from", "a", "--state", "b"), ("examples/open.dat", "examples/thick.dat", "--march", "--state", "a"), ("examples/open.dat", "--march", "--state", ""),
+            ("examples/open.dat", "--march", "--state", "a", "--csv", "./a"), ("examples/open.dat", "--march", "--state", "-", "--csv", "-"), ("examples/open.dat", "--march", "--state", "./examples/open.dat"),
+            ("examples/open.dat", "examples/thick.dat", "--go-on", "a"), ("examples/open.dat", "--go-on", ""), ("-", "--go-on", "-"), ("-", "--go-on", "/dev/stdin"), ("examples/open.dat", "--go-on", "a", "--from", "b"),
+            ("examples/open.dat", "--go-on", "a", "--csv", "a"), ("examples/open.dat", "--go-on", "a", "--record", "./a"), ("examples/open.dat", "--go-on", "a", "--state", "b", "--json", "b"),
+            ("examples/open.dat", "--go-on", "a", "--fwd", "1", "0"), ("examples/open.dat", "--go-on", "a", "--curvature"), ("examples/open.dat", "--go-on", "a", "--upper", "0", "1"), ("examples/open.dat", "--go-on", "a", "--end", "back"),
+            ("examples/open.dat", "--go-on", "a", "--cell", "--slots", "257"), ("examples/open.dat", "--go-on", "a", "--limit", "-1"),
         ):
             with self.subTest(args=args):
                 done = self.run_command(*args)
@@ -1204,6 +1363,143 @@ class Command(unittest.TestCase):
         for options, offered in ((Options(from_file="a"), None), (Options(), PAIR)):
             with self.assertRaises(ValueError):
                 worked_out(R, options, offered)
+
+    def gone_on(self, folder, section, options, limits, more=(), reading=()):
+        """Takes a march in pieces, by a state file that each piece replaces, and at once; returns what the last piece and the one march gave: status, streams and all files."""
+        state, answers = str(folder / "state"), []
+        names = ("csv", "json", "svg", "record", "points", "state")
+        limit = lambda n: () if n is None else ("--limit", str(n))  # noqa: E731
+        total = None if limits[-1] is None else sum(limits)
+        self.assertEqual(self.run_command(section, *reading, "--march", *options, *limit(limits[0]), "--state", state).returncode, 14)
+        for n in limits[1:-1]:
+            self.assertEqual(self.run_command(section, *reading, "--go-on", state, *limit(n), "--state", state).returncode, 14)
+        for how in (("--go-on", state, *limit(limits[-1])), ("--march", *options, *limit(total))):
+            files = [folder / f"out.{name}" for name in names]
+            done = self.run_command(section, *reading, *how, *more, *(word for name, file in zip(names, files) for word in (f"--{name}", str(file))))
+            answers.append((done.returncode, done.stdout, done.stderr, *(file.read_bytes() for file in files)))
+            for file in files:
+                file.unlink()
+        return answers
+
+    def test_go_on(self):
+        """A march in pieces, by files, ends with the very bytes of the one march whose limit is the sum."""
+        line = ("--line", "4", "1", "0", "1")
+        with tempfile.TemporaryDirectory() as name:
+            folder = Path(name)
+            section = str(folder / "r.dat")
+            Path(section).write_text(self.TEXT)
+            for options, limits, more, status, words in (
+                (line, (0, 0), (), 14, "1, 0 units\nstate               advancing, fraction 0 due\n"), (line, (0, 102), (), 0, "52, 102 units\n"), (line, (21, 0, 9), (), 14, "16, 30 units\n"),
+                (line, (21, 1), (), 14, "12, 22 units\nstate               advancing, fraction 0 due\n"), (line, (40, 11), (), 14, "26, 51 units\nstate               refining, 1 waiting\n"),
+                ((*line, "--cell"), (21, 30, 51), (), 0, "52, 102 units\n"), ((*line, "--cell"), (101, None), (), 0, "52, 102 units\n"), (line, (50, 4294967245), (), 0, "52, 102 units\n"), (line, (50, None), ("--thin-circles", "--end", "none"), 0, "3 of 52 kept, 50 units"),
+                ((*line, "--cell"), (60, 42), ("--thin-circles",), 0, "3 of 52 kept, 50 units"), ((*line, "--slots", "20"), (5, 30, 60), (), 15, "20, 40 units\n"),
+                (("--tol", "0.05", "--section-tol", "0.02"), (3, 4), (), 14, "units\n"), ((*line, "--between", "1", "19"), (2, None), (), 0, "stretch"), (("--force-closed",), (20, None), (), 0, "closed"),
+            ):
+                with self.subTest(options=options, limits=limits, more=more):
+                    pieces, one = self.gone_on(folder, section, options, limits, more)
+                    self.assertEqual(pieces, one)
+                    self.assertEqual((one[0], words in one[1]), (status, True), one[1])
+            # no line, and a section that is read otherwise; up to four circles wait, and each fraction is due at some limit
+            odd = folder / "odd.dat"
+            steps = Rows.CUT[1][0]
+            odd.write_text("".join(f"7;{x};{y},0\n" for x, y in zip(steps[::2], steps[1::2])))
+            reading = ("--columns", "2,3", "--decimal-comma")
+            options = ("--tol", "0.05", "--line", "1", "2", "2", "2")
+            for limits in ((22, 5), (22, 24), (22, None), (5, 5, 5, 7)):
+                pieces, one = self.gone_on(folder, str(odd), options, limits, (), reading)
+                self.assertEqual(pieces, one)
+            for section, limits in (("examples/open.dat", (50, 50, 50)), ("examples/compressor.dat", (100, None))):
+                pieces, one = self.gone_on(folder, section, ("--cell",), limits)
+                self.assertEqual(pieces, one)
+            # from standard input, to standard output
+            state = self.run_command("examples/open.dat", "--march", "--limit", "30", "--state", "-").stdout
+            again = self.run_command("examples/open.dat", "--go-on", "-", "--limit", "0", "--state", "-", given=state)
+            self.assertEqual((again.returncode, again.stdout), (14, state), "limit 0 gives the same state")
+            told = json.loads(state)
+            run = rt.march(rt.from_points(read(str(ROOT / "examples" / "open.dat")), T), T, G, told["line"], 30)
+            self.assertEqual(([rt.Inscribed(*c) for c in told["circles"]], told["units"], tuple(told["edges"])), (list(run.circles), 30, run.edges))
+            self.assertEqual(rt.MarchState(told["refining"], told["fraction"], told["waiting"]), run.state)
+            self.assertEqual(json.loads(self.run_command("examples/open.dat", "--go-on", "-", "--limit", "1", "--json", "-", given=state).stdout)["state"]["refining"], not run.state.refining)
+
+    def test_go_on_refused(self):
+        """What is no state of a march on this section, or is handed in otherwise than the march was, is refused with words, and nothing is written."""
+        with tempfile.TemporaryDirectory() as name:
+            folder = Path(name)
+            section, state, out = folder / "r.dat", folder / "state", folder / "out"
+            section.write_text(self.TEXT)
+            line = ("--line", "4", "1", "0", "1")
+            self.assertEqual(self.run_command(str(section), *line, "--march", "--cell", "--limit", "41", "--state", str(state)).returncode, 14)
+            text = state.read_text()
+            # options of the march that are given once more are its own, or a wrong call
+            for args in (line, ("--march",), ("--cell",), ("--slots", "256"), ("--tol", "0.01"), ("--section-tol", "1e-3"), ("--end", "none"), (*line, "--march", "--cell", "--tol", "0.01")):
+                self.assertEqual(self.run_command(str(section), "--go-on", str(state), *args).returncode, 0, args)
+            for args, words in (
+                (("--tol", "0.02"), "--tol: the march in"), (("--tol", "0"), "with 0.01,"), (("--section-tol", "0"), "--section-tol: the march in"), (("--line", "4", "1", "0", "-1"), "with 4.0 1.0 0.0 1.0,"), (("--slots", "255"), "with 256,"), (("--slots", "0"), "--slots"),
+                (("--force-closed",), "--force-closed: the march in"), (("--between", "1", "9"), "without it,"), (("--tol", "nan"), "--tol"),
+            ):
+                done = self.run_command(str(section), "--go-on", str(state), *args, "--csv", str(out), "--state", str(state))
+                self.assertEqual((done.returncode, done.stdout, out.exists(), state.read_text()), (64, "", False, text))
+                self.assertIn(words, done.stderr)
+                self.assertIn(str(state), done.stderr)
+            # another section, by as little as a bit; the same points read from another file are the same section
+            other = folder / "other.dat"
+            other.write_text(self.TEXT.replace("8, 2", "8, 2.0000000000000004"))
+            done = self.run_command(str(other), "--go-on", str(state), "--csv", str(out), "--state", str(state))
+            self.assertEqual((done.returncode, done.stdout, out.exists(), state.read_text()), (66, "", False, text))
+            self.assertIn(f"{state}: the march in it is on another section, {section}: its checksum is not that of the points of {other}", done.stderr)
+            other.write_text(self.TEXT.replace(",", ";").replace("8", "8.0"))
+            self.assertEqual(self.run_command(str(other), "--go-on", str(state)).returncode, 0)
+            # what is no such file
+            told = json.loads(text)
+            changed = lambda **more: json.dumps(dict(told, **more))  # noqa: E731
+            for content, words in (
+                ("", "no file of a march's state"), (self.TEXT, "no file of a march's state"), ("[]", '"file" is not'), ("{}", '"file" is not'), (text[:-3], "no file of"), (changed(file="rummyteak march state 2"), "another version"), (b"\xff\xfe", "no file of"), ("[" * 100000, "no file of"),
+                (text.replace('"tol": 0.01', '"tol": NaN'), "NaN"), (changed(tol="0.01"), '"tol"'), (changed(tol=True), '"tol"'), (changed(line=[4, 1, 0]), '"line"'), (changed(line=None), '"line"'), (changed(slots=1025), '"slots"'), (changed(slots=-1), '"slots"'),
+                (changed(limit=2**32), '"limit"'), (changed(units=1.5), '"units"'), (changed(circles=[[1, 2]]), '"circles"'), (changed(waiting=None), '"waiting"'), (changed(waiting=[[1] * 8 + ["x"]]), '"waiting"'), (changed(refining=1), '"refining"'), (changed(fraction=-1), '"fraction"'),
+                (changed(edges=[1]), '"edges"'), (changed(number=28), '"number"'), (changed(number=None), '"number"'), (changed(points_sha256=None), "another section"), (changed(tol=10**400), '"tol"'), (json.dumps({k: v for k, v in told.items() if k != "cell"}), '"cell"'), (changed(between=[1]), '"between"'),
+            ):
+                state.write_bytes(content if isinstance(content, bytes) else content.encode())
+                with self.assertRaises(Unreadable) as caught:
+                    read_state(str(state), str(section), read(str(section)))
+                self.assertTrue(str(caught.exception).startswith(f"{state}: "))
+                self.assertIn(words, str(caught.exception))
+            done = self.run_command(str(section), "--go-on", str(state), "--csv", str(out), "--state", str(state))
+            self.assertEqual((done.returncode, done.stdout, out.exists(), done.stderr), (66, "", False, f"rummyteak: {caught.exception}\n"))
+            for missing in (str(folder / "nothing"), str(folder)):
+                done = self.run_command(str(section), "--go-on", missing)
+                self.assertEqual((done.returncode, done.stdout), (66, ""))
+                self.assertIn(missing, done.stderr)
+            # a state that no spent march left is the library's to refuse
+            for content, number in ((changed(fraction=4, refining=False, waiting=[]), 27), (changed(waiting=[[1] * 9] * 65), 27), (changed(waiting=[]), 27), (changed(circles=[]), 27), (changed(circles=[[1, 1, -1, 1, 1, 1, 1, 1, 1]]), 2), (changed(tol=1e-4), 23), (changed(circles=[[1] * 9] * 257), 4)):
+                state.write_text(content)
+                done = self.run_command(str(section), "--go-on", str(state))
+                self.assertEqual(done.returncode, number)
+                self.assertIn(f"{number}: {rt.WORDS[number]}", done.stderr)
+            # numbers may be written as whole ones, and what is said besides is passed over
+            state.write_text(changed(line=[4, 1, 0, 1], more="words"))
+            self.assertEqual(self.run_command(str(section), "--go-on", str(state)).returncode, 0)
+            # a march that isn't spent: the file of another one is replaced by one that says so, and has nothing to go on from
+            for args, number in (((), 0), (("--slots", "5"), 15), (("--section-tol", "0.02"), 23), (("--line", "40", "1", "0", "1"), 8), (("--section-tol", "100", "--tol", "100"), 5), (("--thin-circles",), 0), (("--thin-circles", "--limit", "102"), 0)):
+                state.write_text(text)
+                self.assertEqual(self.run_command(str(section), *line, "--march", *args, "--state", str(state)).returncode, number)
+                told = json.loads(state.read_text())
+                self.assertEqual((told["number"], told["ending"], [told[k] for k in ("circles", "refining", "fraction", "waiting")]), (number, rt.WORDS[number], [None] * 4))
+                done = self.run_command(str(section), "--go-on", str(state))
+                self.assertEqual((done.returncode, done.stdout), (66, ""))
+                self.assertIn(f"the march in it is not spent, so that there is nothing to go on from; it ended with {number}: {rt.WORDS[number]}", done.stderr)
+            # where one output can't be written, the state stays
+            state.write_text(text)
+            done = self.run_command(str(section), "--go-on", str(state), "--limit", "5", "--state", str(state), "--csv", "/nowhere/a.csv")
+            self.assertEqual((done.returncode, state.read_text(), "state  " in done.stdout), (73, text, True))
+            self.assertIn("or write the state with --state", done.stderr)
+        self.assertEqual(json.loads(as_state("x", Blade(number=14, step="thinning"), Options(march=True), R))["number"], 0, "it is the march's ending that is told")
+        # the options that go with a paused march are its own
+        run = rt.march(R, T, G, (4, 1, 0, 1), 9)
+        paused = Paused(Options(march=True, line=(4.0, 1.0, 0.0, 1.0), limit=9), rt.Line2(4, 1, 0, 1), run.circles, run.units, run.edges, run.state)
+        self.assertEqual(worked_out(R, Options(march=True, line=(4.0, 1.0, 0.0, 1.0), limit=50), paused=paused), worked_out(R, Options(march=True, line=(4.0, 1.0, 0.0, 1.0), limit=50)))
+        for options in (Options(march=True, line=(4.0, 1.0, 0.0, 1.0), limit=8), Options(march=True, limit=50), Options(march=True, line=(4.0, 1.0, 0.0, 1.0), cell=True), Options()):
+            with self.assertRaises(ValueError):
+                worked_out(R, options, paused=paused)
 
     def test_cell(self):
         """15 says what to do; a spent march keeps its circles, and so does a record of them."""
@@ -1603,7 +1899,31 @@ mkdir -p out && cp "$ARCHIVE" "out/lib$name.a"
             self.assertIn("isn't built", self.build(folder).stderr)
 
 
+class Pause(unittest.TestCase):
+    def test_slices(self):
+        """examples/pause.py takes a march in slices of 50 units, and ends with the circles of the whole march."""
+        env = {k: v for k, v in os.environ.items() if k != "PYTHONPATH"}
+        run = lambda *args: subprocess.run([sys.executable, str(ROOT / "examples" / "pause.py"), *args], env=env, capture_output=True, text=True)  # noqa: E731
+        done = run()
+        self.assertEqual((done.returncode, done.stdout, done.stderr), (0, (ROOT / "examples" / "pause.txt").read_text(encoding="utf-8"), ""))
+        whole = json.loads(subprocess.run([sys.executable, "-m", "rummyteak", "examples/thick.dat", "--march", "--cell", "--json", "-"], cwd=ROOT, env=dict(env, PYTHONPATH=str(ROOT / "python")), capture_output=True, text=True).stdout)
+        self.assertEqual(done.stdout.count("; the fixture stands at "), whole["units"] // 50)
+        self.assertIn(f"in slices: {len(whole['circles'])} circles, {whole['units']} units, a result\n", done.stdout)
+        done = run(str(ROOT / "examples" / "compressor.dat"))
+        self.assertEqual((done.returncode, done.stdout.splitlines()[-3:]), (0, ["in slices: 256 circles, 512 units, no slot is free", "at once:   256 circles, 512 units, no slot is free", "both are equal"]))
+        done = run("no such file")
+        self.assertEqual((done.returncode, done.stdout), (66, ""))
+        self.assertIn("no such file", done.stderr)
+
+
 class Many(unittest.TestCase):
+    def test_one_section(self):
+        """What goes with one section doesn't go with a folder."""
+        for option in "--from", "--go-on":
+            done = subprocess.run([sys.executable, str(ROOT / "examples" / "many.py"), str(ROOT / "examples"), option, "a"], capture_output=True, text=True)
+            self.assertEqual((done.returncode, done.stdout), (64, ""))
+            self.assertIn(f"{option} does not go with a folder", done.stderr)
+
     def test_same_bytes(self):
         """examples/many.py on a local cluster with two workers gives the command's bytes."""
         try:

@@ -1,7 +1,7 @@
 """Rummyteak: a measured blade section into inscribed circles, a camber line and an open-edge point.
 
 Each function calls the proved library. What it refuses is an exception, Refused, with the number and its words. A run (refine_and_push, refine_all,
-march, extract_circles, fit_open_edge, thin) that began returns its circles whichever way it ended.
+march, go_on, extract_circles, fit_open_edge, thin) that began returns its circles whichever way it ended. A march that was spent also returns its state, from which it goes on.
 
 Points, and a section, may be a list of pairs, a flat list of numbers, a Curve2, or anything with the buffer protocol, flat or of pairs. A buffer of
 contiguous float64 numbers (an array.array('d'), a numpy array) is read where it stands, and copied only where it is read-only; another one is converted.
@@ -9,7 +9,7 @@ Circles are any sequence of Inscribed. Bytes are
 anything contiguous with the buffer protocol, copied only where it is read-only. A number of a wrong type is a TypeError, and so is a complex one, whatever its imaginary part. A whole number out of its
 range, points that are no pairs, and an array in which something is masked, are a ValueError; an array with a mask that covers nothing is read as any other.
 
-No call holds state, and other threads run while the library works. The results hold with rounding to nearest and with subnormal numbers, as arithmetic is when a program starts; where that of the
+Nothing is kept between two calls but in what they return, and other threads run while the library works. The results hold with rounding to nearest and with subnormal numbers, as arithmetic is when a program starts; where that of the
 calling thread has been changed, a call raises FloatingPointError. Where the library can't be loaded, or lacks a function, a call raises an OSError that says so.
 """
 
@@ -18,16 +18,17 @@ from __future__ import annotations
 import ctypes
 import sys
 from array import array
-from dataclasses import dataclass
+from dataclasses import dataclass, field, replace
 from typing import Any, Iterable, List, NamedTuple, Optional, Sequence, Tuple, Union
 
-from ._library import CELL_SLOTS, NO_LIMIT, SLOTS, WORDS, call, is_masked, real, whole
+from ._library import CELL_SLOTS, NO_LIMIT, SLOTS, WAITING, WIDTH, WORDS, StateCells, call, is_masked, real, whole
 
 __all__ = [
-    "Refused", "Curve2", "Piece", "CurveStation2", "Line2", "Crossing", "Inscribed", "CircleOnLine", "Run", "March", "Fit", "CELL_SLOTS", "NO_LIMIT", "SLOTS", "WIDTH", "WORDS",
+    "Refused", "Curve2", "Piece", "CurveStation2", "Line2", "Crossing", "Inscribed", "CircleOnLine", "Run", "MarchState", "GoneOn", "March", "Fit",
+    "CELL_SLOTS", "NO_LIMIT", "SLOTS", "WAITING", "WIDTH", "WORDS",
     "sqrt", "from_points", "reversed", "is_closed", "length", "at_front", "at_back", "at_vertex", "at_length", "at_closest_to_point",
     "length_along", "between_lengths", "split_open_at_length", "split_closed_at_lengths", "crossing_line", "joined_crossing", "inscribed_from_crossing", "try_inscribed", "inscribed_refined",
-    "refine_and_push", "refine_all", "march", "extract_circles", "thin", "front_and_back", "index_of_tmax", "average_spacing", "end_clip_line",
+    "refine_and_push", "refine_all", "march", "go_on", "extract_circles", "thin", "front_and_back", "index_of_tmax", "average_spacing", "end_clip_line",
     "reverse_points", "reverse_order_only", "reverse_order", "circles_from", "camber_curve", "make_camber_curve",
     "orient_tmax_fwd", "orient_airflow", "orient_fwd", "orient_curvature", "orient_upper", "orient_lower", "is_open_at_end", "fit_open_edge",
     "write_record", "read_record", "shuffle", "unshuffle", "transpose_words",
@@ -136,10 +137,6 @@ class CircleOnLine:
     edges: Tuple[int, int]
 
 
-# Numbers to a circle.
-WIDTH = len(Inscribed._fields)
-
-
 @dataclass(frozen=True)
 class Run:
     """A run that began: how it ended (0 finished, 14 spent, else refused), its circles, and the units it took. Those of a thinning are the kept ones where it
@@ -155,11 +152,93 @@ class Run:
         return WORDS[self.number]
 
 
+@dataclass(frozen=True, eq=False)
+class MarchState:
+    """Where a spent march stands: whether it was refining or advancing, the number of the fraction that is due (0 to 3 while advancing; 0 while refining, and not read then), and the waiting circles,
+    the newest last. It is a value that does not change, and may be pickled. Two are equal where all their bits are.
+
+    One that is made by hand may hold any numbers: a state that no spent march hands out is refused with 27 by `go_on`."""
+
+    refining: bool
+    fraction: int
+    waiting: Tuple[Inscribed, ...]
+
+    def __post_init__(self) -> None:
+        circles = [tuple(real("waiting", x) for x in c) for c in self.waiting]
+        if any(len(c) != WIDTH for c in circles):
+            raise ValueError(f"waiting: a circle is {WIDTH} numbers")
+        object.__setattr__(self, "refining", bool(self.refining))
+        object.__setattr__(self, "fraction", whole("fraction", self.fraction, 2**64 - 1))
+        object.__setattr__(self, "waiting", tuple(Inscribed(*c) for c in circles))
+
+    def _bits(self) -> Tuple[bool, int, bytes]:
+        return self.refining, self.fraction, array("d", [x for c in self.waiting for x in c]).tobytes()
+
+    def __eq__(self, other: object) -> bool:
+        return self._bits() == other._bits() if isinstance(other, MarchState) else NotImplemented
+
+    def __hash__(self) -> int:
+        return hash(self._bits())
+
+    def __str__(self) -> str:
+        if not self.refining:
+            return f"advancing, fraction {self.fraction} due" + (f", {len(self.waiting)} waiting" if self.waiting else "")
+        return f"refining, {len(self.waiting)} waiting"
+
+
+@dataclass(frozen=True)
+class _Handed:
+    """What a march was handed and its going on is handed again: the section's numbers, both tolerances, the slots of the store, and whether the entry is the cell's."""
+
+    section: bytes
+    section_tol: float
+    tol: float
+    slots: int
+    cell: bool
+
+
+def _goes_on(run: Any, limit: int) -> Any:
+    """A run that is spent, gone on with within a second limit: a run of the same kind, with the units of all."""
+    if run.state is None:
+        raise ValueError(f"a run that isn't spent has no state to go on from; this one ended with {run.number}: {run.ending}")
+    if run._handed is None:
+        raise ValueError("it isn't known what this run was handed; go_on, the function, is handed all of it")
+    h = run._handed
+    more = go_on((ctypes.c_double * (len(h.section) // 8)).from_buffer_copy(h.section), h.section_tol, h.tol, run.circles, run.state, limit, h.slots, h.cell)
+    return replace(run, number=more.number, circles=more.circles, units=run.units + more.units, state=more.state, _handed=more._handed)
+
+
+@dataclass(frozen=True)
+class GoneOn(Run):
+    """A going on that began: a run, and its state where it is spent, else None. `units` are those from where it went on."""
+
+    state: Optional[MarchState]
+    _handed: Optional[_Handed] = field(default=None, repr=False, compare=False)
+
+    def go_on(self, limit: int = NO_LIMIT) -> GoneOn:
+        """The going on gone on with, within a further limit; a ValueError where it isn't spent, for then there is no state. It equals the one going on whose limit is the sum of both, where that is no
+        more than NO_LIMIT. Section, tolerances, `slots` and `cell` are those that were handed in."""
+        gone: GoneOn = _goes_on(self, limit)
+        return gone
+
+
 @dataclass(frozen=True)
 class March(Run):
-    """A march that began: a run, and the edges of its line's crossing; None where the line has none."""
+    """A march that began: a run, the edges of its line's crossing, None where the line has none, and its state where it is spent, else None."""
 
     edges: Optional[Tuple[int, int]]
+    state: Optional[MarchState] = None
+    _handed: Optional[_Handed] = field(default=None, repr=False, compare=False)
+
+    def go_on(self, limit: int = NO_LIMIT) -> March:
+        """The march gone on with, within a second limit; a ValueError where it isn't spent, for then there is no state.
+
+        It equals the one march whose limit is the sum of both, where that is no more than NO_LIMIT: `units` are those of the whole so far, and `edges` those of its start. Where the sum is above
+        NO_LIMIT no march has such a limit; each piece keeps to its own one, and units add up all the same. A march may be taken in any number of pieces.
+
+        Section, tolerances, `slots` and `cell` are those of the march. They were copied when it was spent, so that the section may have changed since, and are pickled with it."""
+        gone: March = _goes_on(self, limit)
+        return gone
 
 
 @dataclass(frozen=True)
@@ -448,6 +527,8 @@ def inscribed_refined(section: Points, section_tol: float, tol: float, a: Inscri
 
 # Stands in a count where a run that is refused on entry writes nothing.
 _UNTOLD = 2**64 - 1
+# The ending with which a march and a going on write their state.
+_SPENT = 14
 
 
 def _run(name: str, store: Any, *args: Any, more: Sequence[Any] = ()) -> Run:
@@ -497,6 +578,22 @@ def refine_all(
     return _run(name, store, p, len(p), section_tol, tol, store, len(store), len(circles), given, len(given), len(offered), limit)
 
 
+def _cells(state: MarchState) -> StateCells:
+    """A state as C has it. Where more circles wait than it holds, the count says how many they are, and the first ones are handed in."""
+    cells = StateCells(state.refining, state.fraction, len(state.waiting))
+    flat = [x for c in state.waiting[:WAITING] for x in c]
+    cells.waiting[: len(flat)] = flat
+    return cells
+
+
+def _paused(number: int, cells: StateCells, section: Any, section_tol: float, tol: float, store: Any, cell: bool) -> Tuple[Optional[MarchState], Optional[_Handed]]:
+    """The state that a march or a going on wrote, and what its going on is handed, where it is spent."""
+    if number != _SPENT:
+        return None, None
+    state = MarchState(bool(cells.refining), cells.fraction, _circles(cells.waiting, cells.count))
+    return state, _Handed(bytes(section), real("section_tol", section_tol), real("tol", tol), len(store) // WIDTH, bool(cell))
+
+
 def march(
     section: Points, section_tol: float, tol: float, line: Line, limit: int = NO_LIMIT, slots: Optional[int] = None, cell: bool = False
 ) -> March:
@@ -507,9 +604,29 @@ def march(
     p = _numbers(section)
     name, size = _entry("march", cell, slots)
     store = _stored((), size)
-    edges, found = _Two(), ctypes.c_bool()
-    run = _run(name, store, p, len(p), section_tol, tol, *_line(line), store, len(store), limit, more=(edges, found))
-    return March(run.number, run.circles, run.units, (edges[0], edges[1]) if found.value else None)
+    edges, found, cells = _Two(), ctypes.c_bool(), StateCells()
+    run = _run(name, store, p, len(p), section_tol, tol, *_line(line), store, len(store), limit, more=(edges, found, cells))
+    state, handed = _paused(run.number, cells, p, section_tol, tol, store, cell)
+    return March(run.number, run.circles, run.units, (edges[0], edges[1]) if found.value else None, state, handed)
+
+
+def go_on(
+    section: Points, section_tol: float, tol: float, circles: Circles, state: MarchState, limit: int = NO_LIMIT, slots: Optional[int] = None, cell: bool = False
+) -> GoneOn:
+    """A march that was spent gone on with, from its circles and its state, within a second limit: for a state that was kept elsewhere. A march that is at hand has `go_on` for this.
+
+    With the march's section, tolerances, `slots` and `cell`, and the circles and the state that it returned, untouched: number and circles, and the state where this run is spent too, are those of one march
+    whose limit is the sum of both, where that is no more than NO_LIMIT; the units of the march and of this call add up to its units. The edges come with the march alone. With limit 0 it is spent, and state
+    and circles are what was handed in. With anything else this is a result or a refusal as any other is, and nothing is promised of a march.
+
+    Store, `slots` and `cell` are as in `refine_and_push`. A state that no spent march hands out is refused with 27, tested after 4 and before 6."""
+    if not isinstance(state, MarchState):
+        raise TypeError(f"state: a MarchState, not {state!r}")
+    p = _numbers(section)
+    name, size = _entry("go_on", cell, slots)
+    store, cells = _stored(circles, size), _cells(state)
+    run = _run(name, store, p, len(p), section_tol, tol, store, len(store), len(circles), cells, limit)
+    return GoneOn(run.number, run.circles, run.units, *_paused(run.number, cells, p, section_tol, tol, store, cell))
 
 
 def extract_circles(section: Points, section_tol: float, tol: float, line: Line, limit: int = NO_LIMIT, slots: int = SLOTS) -> Run:

@@ -9,17 +9,19 @@ import re
 import sys
 import traceback
 from concurrent.futures import ThreadPoolExecutor
+from dataclasses import replace
 from threading import Lock
 from typing import Any, Callable, List, Optional, Tuple
 
 from . import CELL_SLOTS, NO_LIMIT, SLOTS, WORDS
 from ._library import NoLibrary, load
-from .blade import Options, worked_out
+from .blade import Options, Paused, worked_out
 from .files import FORMATS, Reading, Unreadable, read
 from .lists import read_circles
 from .outputs import is_standard_input, is_standard_output, put, same_file, say, tell
 from .picture import svg
 from .report import FAULT, NO_INPUT, NO_OUTPUT, WRONG_CALL, as_csv, as_json, as_points, as_record, message, said, table, told
+from .states import as_state, read_state
 
 
 class Parser(argparse.ArgumentParser):
@@ -64,8 +66,8 @@ def parser() -> argparse.ArgumentParser:
     words.add_argument("--decimal-comma", action="store_true", help="numbers are written as 60,5, and columns separated by semicolons or blanks")
     words.add_argument("--skip", type=_whole(2**31), default=0, metavar="LINES", help="pass over so many lines at the start, whatever they say")
     words.add_argument("--format", choices=FORMATS, default="auto", help="whether the first pair is a point, or counts the points of two surfaces that follow, each from the leading edge; auto goes by the file (%(default)s)")
-    words.add_argument("--section-tol", type=float, default=default.section_tol, help="section tolerance in mm (%(default)s)")
-    words.add_argument("--tol", type=float, default=default.tol, help="general tolerance in mm, no smaller than the section tolerance (%(default)s)")
+    words.add_argument("--section-tol", type=float, help=f"section tolerance in mm ({default.section_tol})")
+    words.add_argument("--tol", type=float, help=f"general tolerance in mm, no smaller than the section tolerance ({default.tol})")
     words.add_argument("--force-closed", action="store_true", help="close the section by force")
     words.add_argument("--between", type=float, nargs=2, metavar=("L0", "L1"), help="only the stretch between two lengths along the section, over the seam of a closed one where the second lies before the first")
     words.add_argument("--line", type=float, nargs=4, metavar=("OX", "OY", "DX", "DY"), help="reference line (without: across the middle of the longest chord)")
@@ -82,12 +84,14 @@ def parser() -> argparse.ArgumentParser:
     words.add_argument("--march", action="store_true", help="one march: only the circles to the right of the reference line as it points, as they were marched, with no orientation and no open edge")
     words.add_argument("--cell", action="store_true", help=f"with --march or --from: by the entry for the cell, whose store holds {CELL_SLOTS} circles")
     words.add_argument("--from", dest="from_file", metavar="CIRCLES", help="circles of a file, a CSV or a hand-over record as this command writes them, in place of finding any: they are offered in order to an empty list, each refined until none waits, and stay in their order, with no orientation and no open edge; - is standard input")
+    words.add_argument("--go-on", metavar="FILE", help="go on with the spent march that a file of --state has, on the same section and within a further --limit; the march keeps its tolerances, stretch, line, slots and entry, and what comes is what one march with the sum of the limits gives; - is standard input")
     words.add_argument("--thin-circles", action="store_true", help="thin the circles, behind all other runs: from the front, drop each one between the first and the last where the trial between the last kept one and the one behind adds none")
     words.add_argument("--points", metavar="FILE", help="write the points of the section, cleaned and cut, as x y lines; - is standard output")
     words.add_argument("--csv", metavar="FILE", help="write the circles as CSV; - is standard output")
     words.add_argument("--record", metavar="FILE", help="write the circles as a hand-over record, which is bytes: to a file, not to standard output")
     words.add_argument("--json", metavar="FILE", help="write everything as JSON; - is standard output")
     words.add_argument("--svg", metavar="FILE", help="write the picture; - is standard output")
+    words.add_argument("--state", metavar="FILE", help="with --march or --go-on: write what --go-on takes, as JSON; of a march that isn't spent the file says how it ended, and there is nothing to go on from; it may be the file of --go-on; - is standard output")
     return words
 
 
@@ -98,16 +102,29 @@ def options_of(args: argparse.Namespace) -> Options:
         return None if v is None else (v[0], v[1])
 
     line = None if args.line is None else (args.line[0], args.line[1], args.line[2], args.line[3])
-    most = CELL_SLOTS if args.cell else SLOTS
+    most, default = CELL_SLOTS if args.cell else SLOTS, Options()
     slots = most if args.slots is None else args.slots
     if slots > most:
         parser().error(f"argument --slots: {slots} is not within 0 to {most}, which is what the entry for the cell holds")
     try:
         return Options(
-            args.section_tol, args.tol, args.force_closed, pair(args.between), line, pair(args.fwd), pair(args.airflow), args.curvature, pair(args.upper), pair(args.lower), args.end, args.limit, slots, args.march, args.cell, args.thin_circles, args.from_file
+            default.section_tol if args.section_tol is None else args.section_tol, default.tol if args.tol is None else args.tol, args.force_closed, pair(args.between), line, pair(args.fwd), pair(args.airflow),
+            args.curvature, pair(args.upper), pair(args.lower), args.end, args.limit, slots, args.march or args.go_on is not None, args.cell, args.thin_circles, args.from_file
         )
     except ValueError as error:
         return parser().error(str(error))
+
+
+def gone_on_with(args: argparse.Namespace, options: Options, paused: Paused) -> Options:
+    """The options of a march that is gone on with: its own, with the sum of the limits. Where a call has one of them too, it has to be the same."""
+    own = paused.options
+    for name in ("section_tol", "tol", "force_closed", "between", "line", "slots", "cell"):
+        given, was = getattr(args, name), getattr(own, name)
+        if given is not None and given is not False and getattr(options, name) != was:
+            where = "standard input" if args.go_on == "-" else args.go_on
+            how = "without it" if was is None or was is False else "with " + " ".join(map(repr, was if isinstance(was, tuple) else (was,)))
+            parser().error(f"argument --{name.replace('_', '-')}: the march in {where} was taken {how}, and goes on so; leave it out")
+    return replace(own, limit=min(own.limit + options.limit, NO_LIMIT), thin_circles=options.thin_circles, end=options.end)
 
 
 def reading_of(args: argparse.Namespace) -> Reading:
@@ -154,16 +171,20 @@ def _one(name: str, options: Options, reading: Reading, args: argparse.Namespace
     try:
         points = read(name, reading, notes.append)
         offered = None if options.from_file is None else read_circles(options.from_file)
+        paused = None if args.go_on is None else read_state(args.go_on, name, points)
     except Unreadable as error:
         say(f"rummyteak: {error}\n")
         return NO_INPUT
+    if paused is not None:
+        options = gone_on_with(args, options, paused)
     say(said(notes))
-    blade = worked_out(points, options, offered)
+    blade = worked_out(points, options, offered, paused)
     wanted: List[Tuple[Optional[str], Callable[[], str]]] = [
         (args.points, lambda: as_points(blade)),
         (args.csv, lambda: as_csv(blade)),
         (args.json, lambda: as_json(name, blade, options, reading)),
         (args.svg, lambda: svg(blade, name)),
+        (args.state, lambda: as_state(name, blade, options, points)),
     ]
     here = [text() for where, text in wanted if where is not None and is_standard_output(where)]
     files = [(where, text().encode("utf-8", "replace")) for where, text in wanted if where is not None and not is_standard_output(where)]
@@ -185,24 +206,32 @@ def _one(name: str, options: Options, reading: Reading, args: argparse.Namespace
 
 def _wrong(args: argparse.Namespace) -> str:
     """What is wrong with a call before anything is read, in words; empty where nothing is."""
-    outputs = [(f"--{name}", getattr(args, name)) for name in ("points", "csv", "record", "json", "svg") if getattr(args, name) is not None]
+    outputs = [(f"--{name}", getattr(args, name)) for name in ("points", "csv", "record", "json", "svg", "state") if getattr(args, name) is not None]
     names = ["-" if is_standard_output(name) else name for _, name in outputs]
     if outputs and len(args.files) > 1:
-        return "--points, --csv, --record, --json and --svg go with one file"
-    circles = [] if args.from_file is None else [args.from_file]
-    if circles and len(args.files) > 1:
-        return "--from goes with one file"
-    if "" in circles:
-        return "--from has no name"
-    if circles and is_standard_input(circles[0]) and is_standard_input(args.files[0]):
-        return "standard input can't be the section and the circles"
+        return "--points, --csv, --record, --json, --svg and --state go with one file"
+    more = [(option, name) for option, name in (("--from", args.from_file), ("--go-on", args.go_on)) if name is not None]
+    for option, name in more:
+        if len(args.files) > 1:
+            return f"{option} goes with one file"
+        if not name:
+            return f"{option} has no name"
+        if is_standard_input(name) and is_standard_input(args.files[0]):
+            return f"standard input can't be the section and the file of {option}"
+    if len(more) > 1:
+        return "--from and --go-on don't go together: circles are offered, or a march is gone on with"
+    if args.state is not None and not (args.march or args.go_on is not None):
+        return "--state goes with --march or --go-on"
     if args.record is not None and is_standard_output(args.record):
         return "--record goes to a file, not to standard output"
     if "" in names:
         return "an output has no name"
     if len(set(names)) < len(names):
         return "two outputs have the same name"
-    return same_file([*args.files, *circles], outputs)
+    circles = [] if args.from_file is None else [args.from_file]
+    # the state that is gone on from may be replaced by the next, and by no other output
+    paused = [] if args.go_on is None else [args.go_on]
+    return same_file([*args.files, *circles], outputs) or same_file(paused, [output for output in outputs if output[0] != "--state"])
 
 
 def _run(arguments: Optional[List[str]]) -> int:

@@ -10,9 +10,11 @@ import sys
 from pathlib import Path
 from typing import Any
 
-# Circles that a store holds at most, the same by the entries for the cell, and the largest limit: no limit is felt.
+# Numbers to a circle, circles that a store holds at most, the same by the entries for the cell, circles that wait in a refinement at most, and the largest limit: no limit is felt.
+WIDTH = 9
 SLOTS = 1024
 CELL_SLOTS = 256
+WAITING = 64
 NO_LIMIT = 2**32 - 1
 
 # The endings in words.
@@ -44,6 +46,7 @@ WORDS = {
     24: "the record ends early, or has bytes left over",
     25: "a map of the record has one of bits 9 to 15, or a bit over a field that is zero",
     26: "the bytes are no whole numbers of eight, or more than 9,216 of them",
+    27: "the state is none that a spent march hands out: over 64 waiting circles or a bad one, none while refining, some while advancing, no circle in use, or a fraction above 3",
 }
 
 
@@ -62,6 +65,15 @@ _loaded: Any = None
 
 d, n, b, u = ctypes.c_double, ctypes.c_size_t, ctypes.c_bool, ctypes.c_uint32
 P, N, B, U = ctypes.POINTER(d), ctypes.POINTER(n), ctypes.POINTER(b), ctypes.POINTER(u)
+
+
+class StateCells(ctypes.Structure):
+    """The state of a spent march as C has it."""
+
+    _fields_ = [("refining", ctypes.c_uint64), ("fraction", ctypes.c_uint64), ("count", ctypes.c_uint64), ("waiting", d * (WAITING * WIDTH))]
+
+
+S = ctypes.POINTER(StateCells)
 _slice = [P, n]
 _bytes = [ctypes.c_void_p, n]
 _line = [d, d, d, d]
@@ -90,8 +102,10 @@ _arguments = {
     "refine_and_push_cell": [*_slice, d, d, *_slice, n, P, u, N, U],
     "refine_all": [*_slice, d, d, *_slice, n, *_slice, n, u, N, U],
     "refine_all_cell": [*_slice, d, d, *_slice, n, *_slice, n, u, N, U],
-    "march": [*_slice, d, d, *_line, *_slice, u, N, U, N, B],
-    "march_cell": [*_slice, d, d, *_line, *_slice, u, N, U, N, B],
+    "march": [*_slice, d, d, *_line, *_slice, u, N, U, N, B, S],
+    "march_cell": [*_slice, d, d, *_line, *_slice, u, N, U, N, B, S],
+    "go_on": [*_slice, d, d, *_slice, n, S, u, N, U],
+    "go_on_cell": [*_slice, d, d, *_slice, n, S, u, N, U],
     "extract_circles": [*_slice, d, d, *_line, *_slice, u, N, U],
     "thin": [*_slice, d, d, *_slice, n, u, N, U],
     "front_and_back": [*_slice, n, P, P],
@@ -194,7 +208,7 @@ def _handed(name: str, kind: Any, value: Any) -> Any:
         return bool(value)
     if kind is n or kind is u:
         return whole(name, value, 2 ** (8 * ctypes.sizeof(kind)) - 1)
-    return ctypes.byref(value) if isinstance(value, (d, n, b, u)) else value
+    return ctypes.byref(value) if isinstance(value, (d, n, b, u, StateCells)) else value
 
 
 # Above 1 the next number is a step away. Only where sums round to nearest, 1 and a quarter of the step, and 1 and three quarters of it, are two numbers. Half of the least normal number is subnormal.
@@ -211,7 +225,7 @@ def _strange_arithmetic() -> FloatingPointError:
 
 
 def call(name: str, *args: Any) -> int:
-    """Calls rummyteak_NAME and returns its number. A single number to be written is handed in as a ctypes object. Other threads run meanwhile. FloatingPointError where this thread doesn't round to
+    """Calls rummyteak_NAME and returns its number. A single number to be written, and a state, is handed in as a ctypes object. Other threads run meanwhile. FloatingPointError where this thread doesn't round to
     nearest, or takes subnormal numbers for zero."""
     function = getattr(load(), "rummyteak_" + name)
     handed = [_handed(name, kind, value) for kind, value in zip(_arguments[name], args)]

@@ -1,5 +1,6 @@
 """One section through all steps: cleaned, cut where a stretch of it is wanted, its circles found, oriented, its open edge fitted, its circles thinned where that is wanted, its camber line drawn.
 Where one march is wanted, its circles lie on one side of the reference line and stay as the march left them: no orientation, no open edge.
+Where a march that was spent is gone on with, what comes is what one march with the sum of the limits gives.
 Where circles come from a file, they are offered in its order to an empty list in place of finding any, and stay in that order: no reference line, no orientation, no open edge.
 
 No rule stands here but which call follows which, and where the reference line is without one: across the middle of the longest chord."""
@@ -9,7 +10,7 @@ from __future__ import annotations
 import math
 from array import array
 from contextlib import suppress
-from dataclasses import dataclass
+from dataclasses import dataclass, replace
 from typing import Any, List, Optional, Sequence, Tuple
 
 import rummyteak as rt
@@ -63,11 +64,24 @@ class Options:
         return min(self.slots, rt.CELL_SLOTS if self.cell else rt.SLOTS)
 
 
+@dataclass(frozen=True)
+class Paused:
+    """A march that was spent, and what going on with it takes: the options that it was taken with, `limit` being the sum of all its limits, its line, and what it left."""
+
+    options: Options
+    line: rt.Line2
+    circles: Tuple[rt.Inscribed, ...]
+    units: int
+    edges: Optional[Tuple[int, int]]
+    state: rt.MarchState
+
+
 @dataclass
 class Blade:
     """What came of a section. `number` is the first ending that isn't 0, and `step` the call that it came from; the steps behind it were not taken,
     but what its circles give is drawn. `circles` are the kept ones where they were thinned, and what is told of them is of these; `dropped` are the others,
-    in their order, and None where no thinning finished. `unthinned` are greatest thickness and camber length of the circles before they were thinned."""
+    in their order, and None where no thinning finished. `unthinned` are greatest thickness and camber length of the circles before they were thinned. `state` is
+    that of a spent march."""
 
     points: int = 0
     march: bool = False
@@ -82,6 +96,7 @@ class Blade:
     crossing: Optional[rt.Crossing] = None
     circles: Tuple[rt.Inscribed, ...] = ()
     units: int = 0
+    state: Optional[rt.MarchState] = None
     dropped: Optional[Tuple[rt.Inscribed, ...]] = None
     thin_units: Optional[int] = None
     unthinned: Optional[Pair] = None
@@ -167,10 +182,12 @@ def _without(circles: Sequence[rt.Inscribed], kept: Sequence[rt.Inscribed]) -> T
 class _Steps:
     """The steps in order. Each raises Refused, or returns the number that its run ended with."""
 
-    def __init__(self, points: Any, options: Options, offered: Optional[Sequence[rt.Inscribed]] = None) -> None:
+    def __init__(self, points: Any, options: Options, offered: Optional[Sequence[rt.Inscribed]] = None, paused: Optional[Paused] = None) -> None:
         if (options.from_file is None) != (offered is None):
             raise ValueError("the circles that are offered are those of the file that the options name")
-        self.points, self.options, self.offered = rt._numbers(points), options, tuple(offered or ())
+        if paused is not None and (replace(paused.options, limit=options.limit, thin_circles=options.thin_circles, end=options.end) != options or options.limit < paused.options.limit):
+            raise ValueError("a march is gone on with by its own options, with the sum of the limits")
+        self.points, self.options, self.offered, self.paused = rt._numbers(points), options, tuple(offered or ()), paused
         self.blade = Blade(points=len(self.points) // 2, march=options.march, cell=options.cell, slots=options.held, from_file=options.from_file)
         if options.from_file is not None:
             self.blade.offered = len(self.offered)
@@ -194,16 +211,27 @@ class _Steps:
             blade.circles, blade.units = again.circles, again.units
             return again.number
         blade.line_given = o.line is not None
+        if self.paused is not None:
+            return self.going_on(section, self.paused)
         blade.line = middle_line(section) if o.line is None else rt.Line2(*o.line)
         run: rt.Run
         if o.march:
             run = marched = rt.march(section, o.section_tol, o.tol, blade.line, o.limit, o.held, o.cell)
-            crosses = marched.edges is not None
+            crosses, blade.state = marched.edges is not None, marched.state
         else:
             run = rt.extract_circles(section, o.section_tol, o.tol, blade.line, o.limit, o.slots)
             crosses = bool(run.circles)
         blade.circles, blade.units = run.circles, run.units
         if crosses:
+            blade.crossing = rt.crossing_line(section, o.section_tol, blade.line)
+        return run.number
+
+    def going_on(self, section: rt.Curve2, paused: Paused) -> int:
+        blade, o = self.blade, self.options
+        blade.line = paused.line
+        run = rt.go_on(section, o.section_tol, o.tol, paused.circles, paused.state, o.limit - paused.options.limit, o.held, o.cell)
+        blade.circles, blade.units, blade.state = run.circles, paused.units + run.units, run.state
+        if paused.edges is not None:
             blade.crossing = rt.crossing_line(section, o.section_tol, blade.line)
         return run.number
 
@@ -277,9 +305,10 @@ class _Steps:
             self.blade.number, self.blade.step = number, step.__name__.replace("_", " ")
 
 
-def worked_out(points: Any, options: Options, offered: Optional[Sequence[rt.Inscribed]] = None) -> Blade:
-    """All that is to be had of a section; its points are whatever the module takes as points. `offered` are the circles of the file that the options name, where they name one."""
-    steps = _Steps(points, options, offered)
+def worked_out(points: Any, options: Options, offered: Optional[Sequence[rt.Inscribed]] = None, paused: Optional[Paused] = None) -> Blade:
+    """All that is to be had of a section; its points are whatever the module takes as points. `offered` are the circles of the file that the options name, where they name one. `paused` is a march on this
+    section that was spent, where one is gone on with: the options are its own, and their limit is the sum of all limits."""
+    steps = _Steps(points, options, offered, paused)
     whole = () if options.keeps_order else (steps.orientation, steps.open_edge)
     for step in (steps.cleaning, steps.stretch, steps.circles, *whole, steps.thinning):
         if not steps.blade.number:

@@ -21,7 +21,8 @@ def _circle(name: str, at: int, line: str) -> Inscribed:
     return Inscribed(*(x for x in numbers if x is not None))
 
 
-def _bytes(name: str) -> bytes:
+def bytes_of(name: str) -> bytes:
+    """The bytes of a file; `-` is standard input."""
     if name != "-":
         with open(name, "rb") as file:
             return file.read()
@@ -35,7 +36,7 @@ def read_circles(name: str) -> Tuple[Inscribed, ...]:
     """The circles of a file; `-` is standard input."""
     shown = "standard input" if name == "-" else os.fsdecode(name)
     try:
-        data = _bytes(name)
+        data = bytes_of(name)
     except (OSError, ValueError) as error:
         raise Unreadable(f"{shown}: {getattr(error, 'strerror', None) or error}") from error
     lines: List[str] = [line.rstrip("\r") for line in data.decode("utf-8-sig", "replace").split("\n")]

@@ -42,7 +42,12 @@ ADVICE = {
     24: "hand in all bytes of one record, and no others",
     25: "look for bytes that were changed or moved on the way",
     26: "hand in eight bytes for each number, and 9,216 numbers at most",
+    27: "hand in the state that the spent march left, and its circles, as they were",
 }
+
+
+# The same of 14 where a march has left its state.
+SPENT_MARCH = "hand in a larger --limit, or write the state with --state and go on from it with --go-on"
 
 
 # The same of 15 by the entry for the cell: where its slots were fewer than it has, and where they were all of them.
@@ -76,6 +81,8 @@ def table(name: str, blade: Blade) -> str:
     if blade.run:
         rows.append(("circles from" if blade.from_file is not None else "run", blade.run))
     rows.append(("circles", f"{blade.found}, {blade.units} units"))
+    if blade.state is not None:
+        rows.append(("state", str(blade.state)))
     if blade.thin_units is not None:
         kept = f"{len(blade.circles)} of {blade.found} kept" if blade.dropped is not None else f"not finished, all {blade.found} kept"
         more = "; of all: greatest thickness {:.6f}, camber length {:.6f}".format(*blade.unthinned) if blade.unthinned else ""
@@ -97,7 +104,9 @@ def message(name: str, blade: Blade) -> str:
     if not blade.number:
         return ""
     advice = ADVICE[blade.number]
-    if blade.cell and blade.number == 15:
+    if blade.state is not None:
+        advice = SPENT_MARCH
+    elif blade.cell and blade.number == 15:
         advice = CELL_FULL[blade.slots == CELL_SLOTS]
     elif blade.from_file is not None and blade.step == "circles":
         advice = FROM_FILE.get(blade.number, advice)
@@ -167,6 +176,7 @@ def as_json(name: str, blade: Blade, options: Options, reading: Reading) -> str:
         "circle": Inscribed._fields,
         "circles": blade.circles,
         "units": blade.units,
+        "state": {"refining": blade.state.refining, "fraction": blade.state.fraction, "waiting": blade.state.waiting} if blade.state else None,
         "offered": blade.offered,
         "dropped": blade.dropped,
         "thin_units": blade.thin_units,

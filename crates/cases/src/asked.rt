@@ -2,10 +2,11 @@
 //
 // Of the arguments the section tolerance t and the general tolerance g come first, then a length, a point, a vector, a line, or one or two circles. The first word told is 0
 // for a result, 99 for "nothing", or the number of the refusal; the words behind it are a count, an edge, a place or a root, and the units, or a yes or no, and then the edges.
-// What the interface writes by reference has what stands in the output before, or in the words told, so that a refusal which wrote something would show.
+// What the interface writes by reference has what stands in the output or in the state before, or in the words told, so that a refusal which wrote something would show.
 use crate::case::ARGUMENTS;
 use crate::numbers::{numbers_from, put};
 use inscribed::store::WIDTH;
+use rummyteak::given::StateCells;
 use rummyteak::{circle, curve, edge, run, section, turning};
 
 mod pieces;
@@ -243,6 +244,7 @@ fn ask_offers(q: &Question<'_>, store: &mut [f64], count: &mut usize, units: &mu
 fn ask_march(
     q: &Question<'_>,
     store: &mut [f64],
+    state: &mut StateCells,
     count: &mut usize,
     units: &mut u32,
     told: &mut Told,
@@ -253,17 +255,44 @@ fn ask_march(
     let number = match q.name {
         b"march_cell" => run::rummyteak_march_cell(
             q.section, t, g, x, y, dx, dy, store, q.limit, count, units, &mut edges, &mut found,
+            state,
         ),
         _ => run::rummyteak_march(
             q.section, t, g, x, y, dx, dy, store, q.limit, count, units, &mut edges, &mut found,
+            state,
         ),
     };
     tell_edges(told, found, edges);
     number
 }
 
+// A march that goes on from a state by the entry that is named, and its ending.
+fn ask_going(
+    q: &Question<'_>,
+    store: &mut [f64],
+    state: &mut StateCells,
+    count: &mut usize,
+    units: &mut u32,
+) -> u32 {
+    let [t, g, ..] = *q.args;
+    match q.name {
+        b"go_on_cell" => run::rummyteak_go_on_cell(
+            q.section, t, g, store, q.place, state, q.limit, count, units,
+        ),
+        _ => run::rummyteak_go_on(
+            q.section, t, g, store, q.place, state, q.limit, count, units,
+        ),
+    }
+}
+
 // A fit puts out its point.
-fn ask_run(q: &Question<'_>, store: &mut [f64], out: &mut [f64], told: &mut Told) -> bool {
+fn ask_run(
+    q: &Question<'_>,
+    store: &mut [f64],
+    out: &mut [f64],
+    state: &mut StateCells,
+    told: &mut Told,
+) -> bool {
     let [t, g, x, y, dx, dy, ..] = *q.args;
     let mut count = told[1] as usize;
     let mut units = u32::try_from(told[2]).unwrap_or(0);
@@ -272,7 +301,8 @@ fn ask_run(q: &Question<'_>, store: &mut [f64], out: &mut [f64], told: &mut Told
             ask_refinement(q, store, &mut count, &mut units)
         }
         b"refine_all" | b"refine_all_cell" => ask_offers(q, store, &mut count, &mut units),
-        b"march" | b"march_cell" => ask_march(q, store, &mut count, &mut units, told),
+        b"march" | b"march_cell" => ask_march(q, store, state, &mut count, &mut units, told),
+        b"go_on" | b"go_on_cell" => ask_going(q, store, state, &mut count, &mut units),
         b"thin" => {
             run::rummyteak_thin(
                 q.section, t, g, store, q.place, q.limit, &mut count, &mut units,
@@ -307,14 +337,20 @@ fn ask_run(q: &Question<'_>, store: &mut [f64], out: &mut [f64], told: &mut Told
 }
 
 // Asks a function, and says whether there is one of that name.
-pub(crate) fn ask(q: &Question<'_>, store: &mut [f64], out: &mut [f64], told: &mut Told) -> bool {
+pub(crate) fn ask(
+    q: &Question<'_>,
+    store: &mut [f64],
+    out: &mut [f64],
+    state: &mut StateCells,
+    told: &mut Told,
+) -> bool {
     ask_curve(q, store, out, told)
         || ask_yes(q, store, told)
         || ask_number(q, out, told)
         || ask_station(q, out, told)
         || ask_crossing(q, out, told)
         || ask_circle(q, out, told)
-        || ask_run(q, store, out, told)
+        || ask_run(q, store, out, state, told)
         || stores::ask_list(q, store, out, told)
         || steps::ask_step(q, out, told)
         || pieces::ask_piece(q, store, out, told)

@@ -8,6 +8,7 @@ mod case;
 mod numbers;
 mod replay;
 mod samples;
+mod state;
 mod table;
 
 ghost use Rattle.std.specs.Prelude.{◌≤◌, length, IfOk};
@@ -86,7 +87,7 @@ fn read_full(input: &mut impl Read, text: &mut [u8]) -> io::Result<usize>
 }
 
 fn main(rt: HostRuntime) -> io::Result<()> {
-    let mut text = [0; 131072];
+    let mut text = [0; 196608];
     let len = read_full(&mut rt.reader(), &mut text)?;
     let verdict = run(&rt, &text[0..len], &mut Case::new())?;
     say(&rt, verdict)

@@ -1,11 +1,13 @@
 // What the lines of a table do: they set what is handed in, ask the library, and compare what it tells and leaves.
 use crate::case::{Case, SLOTS, limit_of};
 use crate::numbers::{are_same, copies, holds, numbers_from, rank, row, write};
+use crate::state;
 use crate::table::{count, is_blank, whole, word};
 use inscribed::store::WIDTH;
 use limits::Spent;
 
 mod limits;
+mod pauses;
 mod places;
 mod sums;
 
@@ -55,11 +57,15 @@ pub(crate) fn is_right(line: &[u8], case: &mut Case) -> bool {
             copies(&mut store[..len], circle);
         }
         b"list" => case.set_list(line),
+        b"state" => case.left.state = state::written(line),
+        b"waiting" => case.left.state = state::of_store(line, &case.left.store),
         b"keep" => case.kept = case.left,
         b"ask" => return case.ask(line, 1, limit_of(line, 4)),
         b"told" => return is_told(case, line),
         b"gives" => return holds(&case.left.out, line, case.out_mark),
         b"leaves" => return holds(&case.left.store, line, case.store_mark),
+        b"holds" => return state::is_same(&case.left.state, &state::written(line)),
+        b"stays" => return case.left.has_same_state(&case.kept),
         b"same" => {
             let len = count(line, 3);
             let left = part(&case.left.store, count(line, 1), len);
@@ -71,6 +77,7 @@ pub(crate) fn is_right(line: &[u8], case: &mut Case) -> bool {
         b"thins" => return limits::keep(line, Spent::AsBefore(count(line, 3)), case),
         b"agree" => return limits::agree(line, case),
         b"slots" => return limits::fill(line, case),
+        b"pauses" => return pauses::keep(line, case),
         b"sample" => return sums::sample(line),
         b"root" => return sums::root(line),
         b"roots" => return sums::roots(line),

@@ -1,4 +1,4 @@
-// A run under every limit, beside the same run without one. Before it, output and store are kept.
+// A run under every limit, beside the same run without one. Before it, output, store and state are kept.
 use crate::asked::Told;
 use crate::case::{Case, Left, NO_LIMIT, limit_of};
 use crate::numbers::are_same;
@@ -7,9 +7,9 @@ use inscribed::store::WIDTH;
 
 // What a run left and told, and what it began with.
 #[derive(Clone, Copy)]
-struct Ran {
-    left: Left,
-    told: Told,
+pub(crate) struct Ran {
+    pub(crate) left: Left,
+    pub(crate) told: Told,
 }
 
 // What a spent run leaves: the first circles of the plain run's, what nobody compares (an edge fit), or the store as it was, with its count (a thinning).
@@ -20,8 +20,8 @@ pub(crate) enum Spent {
     AsBefore(usize),
 }
 
-// Runs what word k of the line names, from output and store as they were kept.
-fn run(line: &[u8], k: usize, limit: u32, case: &mut Case) -> Ran {
+// Runs what word k of the line names, from output, store and state as they were kept.
+pub(crate) fn run(line: &[u8], k: usize, limit: u32, case: &mut Case) -> Ran {
     case.left = case.kept;
     case.ask(line, k, limit);
     Ran {
@@ -30,10 +30,27 @@ fn run(line: &[u8], k: usize, limit: u32, case: &mut Case) -> Ran {
     }
 }
 
+// Keeps output, store and state, and runs what word k of the line names without a limit. Nothing where no function has that name, or where a state was written.
+pub(crate) fn plain_run(line: &[u8], k: usize, case: &mut Case) -> Option<Ran> {
+    case.kept = case.left;
+    if !case.ask(line, k, NO_LIMIT) {
+        return None;
+    }
+    Some(Ran {
+        left: case.left,
+        told: case.told,
+    })
+}
+
 impl Ran {
+    // Whether another run ended with the same count and units.
+    fn ends_alike(&self, other: &Ran) -> bool {
+        self.told[..3] == other.told[..3]
+    }
+
     // Whether another run ended with the same count and units, and left the same.
     fn is_same(&self, other: &Ran) -> bool {
-        self.told[..3] == other.told[..3] && self.left.is_same(&other.left)
+        self.ends_alike(other) && self.left.is_same(&other.left)
     }
 
     // Whether another run began on the same edges.
@@ -41,9 +58,14 @@ impl Ran {
         self.told[3..] == other.told[3..]
     }
 
+    // Whether the run was spent.
+    pub(crate) fn is_spent(&self) -> bool {
+        self.told[0] == 14
+    }
+
     // Whether the run was spent at a limit.
-    fn is_spent(&self, limit: u32) -> bool {
-        self.told[0] == 14 && self.told[2] == u64::from(limit)
+    fn is_spent_at(&self, limit: u32) -> bool {
+        self.is_spent() && self.told[2] == u64::from(limit)
     }
 
     // Whether the store holds the first circles of the plain run's, as many as were told, and behind them what it held before.
@@ -63,12 +85,12 @@ impl Ran {
     }
 
     // Whether a run under a limit keeps to the plain one: the same from its units on, spent below them, with the same edges.
-    fn keeps(&self, plain: &Ran, spent: Spent, limit: u32, kept: &Left) -> bool {
+    pub(crate) fn keeps(&self, plain: &Ran, spent: Spent, limit: u32, kept: &Left) -> bool {
         self.has_same_edges(plain)
             && if plain.told[2] <= u64::from(limit) {
                 self.is_same(plain)
             } else {
-                self.is_spent(limit) && self.leaves(spent, plain, kept)
+                self.is_spent_at(limit) && self.leaves(spent, plain, kept)
             }
     }
 
@@ -83,14 +105,16 @@ impl Ran {
                     && self.told[2] <= larger.told[2]
                     && self.is_start(larger, kept)
                     && are_same(&self.left.out, &kept.out)
+                    && self.left.has_same_state(kept)
             }
     }
 }
 
 // Whether the run that word 2 of the line names keeps to the plain one at each limit from word 1 up to two above its units.
 pub(crate) fn keep(line: &[u8], spent: Spent, case: &mut Case) -> bool {
-    case.kept = case.left;
-    let plain = run(line, 2, NO_LIMIT, case);
+    let Some(plain) = plain_run(line, 2, case) else {
+        return false;
+    };
     let end = (plain.told[2] % 1000) as u32 + 3;
     for limit in limit_of(line, 1)..end {
         let ran = run(line, 2, limit, case);
@@ -106,7 +130,8 @@ pub(crate) fn agree(line: &[u8], case: &mut Case) -> bool {
     case.kept = case.left;
     for limit in 0..limit_of(line, 1) {
         let a = run(line, 2, limit, case);
-        if !run(line, 3, limit, case).is_same(&a) {
+        let b = run(line, 3, limit, case);
+        if !(b.ends_alike(&a) && b.left.has_same_numbers(&a.left)) {
             return false;
         }
     }
@@ -116,8 +141,9 @@ pub(crate) fn agree(line: &[u8], case: &mut Case) -> bool {
 // Whether the run that word 2 of the line names, whose store has as many slots as word 1 says, keeps to the one that word 4 names at each limit from 0 up to two above the units of
 // the latter.
 pub(crate) fn fill(line: &[u8], case: &mut Case) -> bool {
-    case.kept = case.left;
-    let plain = run(line, 4, NO_LIMIT, case);
+    let Some(plain) = plain_run(line, 4, case) else {
+        return false;
+    };
     let end = (plain.told[2] % 1000) as u32 + 3;
     for limit in 0..end {
         let larger = run(line, 4, limit, case);

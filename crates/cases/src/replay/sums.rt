@@ -2,12 +2,13 @@
 use crate::asked::{Question, Told};
 use crate::case::NO_LIMIT;
 use crate::table::{count, number, whole, word};
-use crate::{asked, bits, samples};
+use crate::{asked, bits, samples, state};
 use inscribed::store::WIDTH;
 
 // The questions of a sample: the first, and where there is one the second, of the circles that the first left.
 fn ask_both(line: &[u8], first: Question<'_>, store: &mut [f64], out: &mut [f64], told: &mut Told) {
-    asked::ask(&first, store, out, told);
+    let mut marked = state::marked();
+    asked::ask(&first, store, out, &mut marked, told);
     let name = word(line, 4);
     if told[0] == 0 && !name.is_empty() {
         let second = Question {
@@ -16,7 +17,7 @@ fn ask_both(line: &[u8], first: Question<'_>, store: &mut [f64], out: &mut [f64]
             how: whole(word(line, 5)),
             ..first
         };
-        asked::ask(&second, store, out, told);
+        asked::ask(&second, store, out, &mut marked, told);
     }
 }
 
