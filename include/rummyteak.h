@@ -108,12 +108,12 @@ enum rummyteak_ending {
     RUMMYTEAK_RECORD_MAP = 25,
     /* bytes of stored numbers: a count that isn't a multiple of eight, or is above 73,728 */
     RUMMYTEAK_BYTE_COUNT = 26,
-    /* a state that no spent march hands out: over 64 waiting circles or a bad one, none while refining, some while advancing, no
-     * circle in use, or, while advancing, a fraction above 3 */
+    /* a state with over 64 waiting circles or a bad one, none while refining, some while advancing, no circle in use, or, while
+     * advancing, a fraction above 3 */
     RUMMYTEAK_BAD_STATE = 27
 };
 
-/* Where a spent march stands: march and go_on write it with 14, and go_on reads it. It is all in these plain numbers, with no
+/* The state of a spent march: march and go_on write it with 14, and go_on reads it. It is all in these plain numbers, with no
  * pointer among them, so that it may be copied, kept, and written to a file byte by byte and read back by a program on the same
  * kind of machine. The layout is fixed: refining at offset 0, fraction at 8, count at 16 and waiting at 24, 4,632 bytes in all,
  * and no byte between them; where the machine has the least significant byte of a number first, so do these bytes. Any content
@@ -261,10 +261,11 @@ uint32_t rummyteak_march_cell(const double *section, size_t section_len, double 
  * those of the one march. The same holds of a going on that is spent and the going on from its state, so that a march may be
  * taken in any number of pieces. With the limit 0 a going on from the state of a spent march, or of a spent going on, is spent
  * with no unit, and leaves state and store as they were. The edges come with the march alone, spent or not.
- * Go on after 14 alone, with which a state always comes, one that is none of 27 with the count that comes with it. With any
- * other number the state is still the one that was handed in, and no longer that of the store. With that one, with one made by
- * hand, or with another section, tolerance, store or entry, this call is a result or a refusal as any other is; what is promised
- * of a march in pieces is not promised of it. */
+ * Go on after 14, with which a state always comes, one that is none of 27 with the count that comes with it. A refusal on entry
+ * leaves state and store as they were, so that the call may be made again as it was meant. After a result, or a refusal behind
+ * the entry tests, the march is over: the state is still the one that was handed in, and no longer that of the store. With that
+ * one, with one made by hand, or with another section, tolerance, store or entry, this call is a result or a refusal as any other
+ * is; what is promised of a march in pieces is not promised of it. */
 uint32_t rummyteak_go_on(const double *section, size_t section_len, double section_tol, double tol, double *store,
                          size_t store_len, size_t stated, struct rummyteak_march_state *state, uint32_t limit,
                          size_t *count, uint32_t *units);

@@ -1449,6 +1449,13 @@ class Command(unittest.TestCase):
             self.assertIn(f"{state}: the march in it is on another section, {section}: its checksum is not that of the points of {other}", done.stderr)
             other.write_text(self.TEXT.replace(",", ";").replace("8", "8.0"))
             self.assertEqual(self.run_command(str(other), "--go-on", str(state)).returncode, 0)
+            # what isn't finite is null: the file stays JSON
+            strange = folder / "strange"
+            self.assertEqual(self.run_command(str(section), "--march", "--line", "nan", "0", "0", "1", "--state", str(strange)).returncode, 2)
+            self.assertEqual(json.loads(strange.read_text(), parse_constant=self.fail)["line"], [None, 0.0, 0.0, 1.0])
+            done = self.run_command(str(section), "--go-on", str(strange))
+            self.assertEqual((done.returncode, done.stdout), (66, ""))
+            self.assertIn("is not spent", done.stderr)
             # what is no such file
             told = json.loads(text)
             changed = lambda **more: json.dumps(dict(told, **more))  # noqa: E731
@@ -1456,7 +1463,7 @@ class Command(unittest.TestCase):
                 ("", "no file of a march's state"), (self.TEXT, "no file of a march's state"), ("[]", '"file" is not'), ("{}", '"file" is not'), (text[:-3], "no file of"), (changed(file="rummyteak march state 2"), "another version"), (b"\xff\xfe", "no file of"), ("[" * 100000, "no file of"),
                 (text.replace('"tol": 0.01', '"tol": NaN'), "NaN"), (changed(tol="0.01"), '"tol"'), (changed(tol=True), '"tol"'), (changed(line=[4, 1, 0]), '"line"'), (changed(line=None), '"line"'), (changed(slots=1025), '"slots"'), (changed(slots=-1), '"slots"'),
                 (changed(limit=2**32), '"limit"'), (changed(units=1.5), '"units"'), (changed(circles=[[1, 2]]), '"circles"'), (changed(waiting=None), '"waiting"'), (changed(waiting=[[1] * 8 + ["x"]]), '"waiting"'), (changed(refining=1), '"refining"'), (changed(fraction=-1), '"fraction"'),
-                (changed(edges=[1]), '"edges"'), (changed(number=28), '"number"'), (changed(number=None), '"number"'), (changed(points_sha256=None), "another section"), (changed(tol=10**400), '"tol"'), (json.dumps({k: v for k, v in told.items() if k != "cell"}), '"cell"'), (changed(between=[1]), '"between"'),
+                (changed(edges=[1]), '"edges"'), (changed(number=28), '"number"'), (changed(number=None), '"number"'), (changed(points_sha256=None), '"points_sha256"'), (changed(points_sha256="0" * 64), "another section"), (changed(tol=10**400), '"tol"'), (json.dumps({k: v for k, v in told.items() if k != "cell"}), '"cell"'), (changed(between=[1]), '"between"'),
             ):
                 state.write_bytes(content if isinstance(content, bytes) else content.encode())
                 with self.assertRaises(Unreadable) as caught:

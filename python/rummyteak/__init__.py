@@ -154,16 +154,20 @@ class Run:
 
 @dataclass(frozen=True, eq=False)
 class MarchState:
-    """Where a spent march stands: whether it was refining or advancing, the number of the fraction that is due (0 to 3 while advancing; 0 while refining, and not read then), and the waiting circles,
+    """The state of a spent march: whether it was refining or advancing, the number of the fraction that is due (0 to 3 while advancing; 0 while refining, and not read then), and the waiting circles,
     the newest last. It is a value that does not change, and may be pickled. Two are equal where all their bits are.
 
-    One that is made by hand may hold any numbers: a state that no spent march hands out is refused with 27 by `go_on`."""
+    One that is made by hand may hold any numbers: `go_on` refuses with 27 a state with over 64 waiting circles or a bad one, none while refining, some while advancing, or, while advancing, a fraction above 3."""
 
     refining: bool
     fraction: int
     waiting: Tuple[Inscribed, ...]
 
     def __post_init__(self) -> None:
+        if not isinstance(self.refining, int):
+            raise TypeError(f"refining: a yes or no, not {self.refining!r}")
+        if any(isinstance(c, (int, float)) for c in self.waiting):
+            raise TypeError(f"waiting: a sequence of circles, of {WIDTH} numbers each")
         circles = [tuple(real("waiting", x) for x in c) for c in self.waiting]
         if any(len(c) != WIDTH for c in circles):
             raise ValueError(f"waiting: a circle is {WIDTH} numbers")
@@ -200,7 +204,7 @@ class _Handed:
 def _goes_on(run: Any, limit: int) -> Any:
     """A run that is spent, gone on with within a second limit: a run of the same kind, with the units of all."""
     if run.state is None:
-        raise ValueError(f"a run that isn't spent has no state to go on from; this one ended with {run.number}: {run.ending}")
+        raise ValueError(f"this run has no state to go on from; it ended with {run.number}: {run.ending}")
     if run._handed is None:
         raise ValueError("it isn't known what this run was handed; go_on, the function, is handed all of it")
     h = run._handed
@@ -619,7 +623,7 @@ def go_on(
     whose limit is the sum of both, where that is no more than NO_LIMIT; the units of the march and of this call add up to its units. The edges come with the march alone. With limit 0 it is spent, and state
     and circles are what was handed in. With anything else this is a result or a refusal as any other is, and nothing is promised of a march.
 
-    Store, `slots` and `cell` are as in `refine_and_push`. A state that no spent march hands out is refused with 27, tested after 4 and before 6."""
+    Store, `slots` and `cell` are as in `refine_and_push`. 27 is a state with over 64 waiting circles or a bad one, none while refining, some while advancing, no circle in use, or, while advancing, a fraction above 3; it is tested after 4 and before 6."""
     if not isinstance(state, MarchState):
         raise TypeError(f"state: a MarchState, not {state!r}")
     p = _numbers(section)

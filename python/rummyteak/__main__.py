@@ -79,12 +79,12 @@ def parser() -> argparse.ArgumentParser:
     side.add_argument("--upper", type=float, nargs=2, metavar=("X", "Y"), help="a vector to the upper side")
     side.add_argument("--lower", type=float, nargs=2, metavar=("X", "Y"), help="a vector to the lower side")
     words.add_argument("--end", choices=("auto", "front", "back", "none"), default=default.end, help="which end's open edge is fitted (%(default)s)")
-    words.add_argument("--limit", type=_whole(NO_LIMIT), default=default.limit, help="units at most in each run: the circles, the open edge, and thinning (no limit)")
+    words.add_argument("--limit", type=_whole(NO_LIMIT), default=default.limit, help="units at most in each run: the circles, the open edge, and thinning (no limit); with --go-on, of this piece, and thinning has the sum")
     words.add_argument("--slots", type=_whole(SLOTS), help=f"circles at most, up to {SLOTS}, with --cell up to {CELL_SLOTS} (as many as that)")
     words.add_argument("--march", action="store_true", help="one march: only the circles to the right of the reference line as it points, as they were marched, with no orientation and no open edge")
     words.add_argument("--cell", action="store_true", help=f"with --march or --from: by the entry for the cell, whose store holds {CELL_SLOTS} circles")
     words.add_argument("--from", dest="from_file", metavar="CIRCLES", help="circles of a file, a CSV or a hand-over record as this command writes them, in place of finding any: they are offered in order to an empty list, each refined until none waits, and stay in their order, with no orientation and no open edge; - is standard input")
-    words.add_argument("--go-on", metavar="FILE", help="go on with the spent march that a file of --state has, on the same section and within a further --limit; the march keeps its tolerances, stretch, line, slots and entry, and what comes is what one march with the sum of the limits gives; - is standard input")
+    words.add_argument("--go-on", metavar="FILE", help="go on with the spent march that a file of --state has, on the same section and within a further --limit; the march keeps its tolerances, forced closing, stretch, line, slots and entry, and what comes is what one march with the sum of the limits gives; - is standard input")
     words.add_argument("--thin-circles", action="store_true", help="thin the circles, behind all other runs: from the front, drop each one between the first and the last where the trial between the last kept one and the one behind adds none")
     words.add_argument("--points", metavar="FILE", help="write the points of the section, cleaned and cut, as x y lines; - is standard output")
     words.add_argument("--csv", metavar="FILE", help="write the circles as CSV; - is standard output")
@@ -123,7 +123,7 @@ def gone_on_with(args: argparse.Namespace, options: Options, paused: Paused) -> 
         if given is not None and given is not False and getattr(options, name) != was:
             where = "standard input" if args.go_on == "-" else args.go_on
             how = "without it" if was is None or was is False else "with " + " ".join(map(repr, was if isinstance(was, tuple) else (was,)))
-            parser().error(f"argument --{name.replace('_', '-')}: the march in {where} was taken {how}, and goes on so; leave it out")
+            parser().error(f"argument --{name.replace('_', '-')}: the march in {where} was taken {how}, and goes on so; leave it out, or take the march anew without --go-on")
     return replace(own, limit=min(own.limit + options.limit, NO_LIMIT), thin_circles=options.thin_circles, end=options.end)
 
 

@@ -46,7 +46,7 @@ WORDS = {
     24: "the record ends early, or has bytes left over",
     25: "a map of the record has one of bits 9 to 15, or a bit over a field that is zero",
     26: "the bytes are no whole numbers of eight, or more than 9,216 of them",
-    27: "the state is none that a spent march hands out: over 64 waiting circles or a bad one, none while refining, some while advancing, no circle in use, or a fraction above 3",
+    27: "the state has over 64 waiting circles or a bad one, none while refining, some while advancing, no circle in use, or, while advancing, a fraction above 3",
 }
 
 

@@ -104,7 +104,7 @@ def message(name: str, blade: Blade) -> str:
     if not blade.number:
         return ""
     advice = ADVICE[blade.number]
-    if blade.state is not None:
+    if blade.number == 14 and blade.step == "circles" and blade.state is not None:
         advice = SPENT_MARCH
     elif blade.cell and blade.number == 15:
         advice = CELL_FULL[blade.slots == CELL_SLOTS]

@@ -7,6 +7,7 @@ from __future__ import annotations
 
 import hashlib
 import json
+import math
 import os
 import sys
 from array import array
@@ -29,10 +30,17 @@ def checksum(points: Any) -> str:
     return hashlib.sha256(numbers.tobytes()).hexdigest()
 
 
+def _finite(value: Any) -> Any:
+    """The same with null for each number that isn't finite: no march that was spent has one."""
+    if isinstance(value, float):
+        return value if math.isfinite(value) else None
+    return [_finite(x) for x in value] if isinstance(value, (list, tuple)) else value
+
+
 def as_state(name: str, blade: Blade, options: Options, points: Any) -> str:
     """The file of a march, spent or not."""
     number = blade.number if blade.step in ("cleaning", "stretch", "circles") else 0
-    state = blade.state
+    state = blade.state if number == 14 else None
     everything: Dict[str, Any] = {
         "file": FORMAT,
         "section": name,
@@ -42,7 +50,7 @@ def as_state(name: str, blade: Blade, options: Options, points: Any) -> str:
         "force_closed": options.force_closed,
         "between": options.between,
         "line": blade.line,
-        "line_given": blade.line_given,
+        "line_given": options.line is not None,
         "slots": options.slots,
         "cell": options.cell,
         "limit": options.limit,
@@ -56,7 +64,7 @@ def as_state(name: str, blade: Blade, options: Options, points: Any) -> str:
         "fraction": state.fraction if state else None,
         "waiting": state.waiting if state else None,
     }
-    rows = (f" {json.dumps(key)}: {json.dumps(value)}" for key, value in everything.items())
+    rows = (f" {json.dumps(key)}: {json.dumps(_finite(value), allow_nan=False)}" for key, value in everything.items())
     return "{\n" + ",\n".join(rows) + "\n}\n"
 
 
@@ -103,6 +111,12 @@ def _circle(value: Any) -> Inscribed:
     return Inscribed(*_several(WIDTH, _real)(value))
 
 
+def _text(value: Any) -> str:
+    if not isinstance(value, str):
+        raise ValueError
+    return value
+
+
 def _constant(word: str) -> float:
     raise ValueError(f"{word} is no number")
 
@@ -134,7 +148,7 @@ def read_state(name: str, section: str, points: Any) -> Paused:
             raise Unreadable(f'{shown}: in the file of a march\'s state, "{key}" is not there, or is not what --state writes') from None
 
     number = taken("number", _whole(max(WORDS)))
-    if told.get("points_sha256") != checksum(points):
+    if taken("points_sha256", _text) != checksum(points):
         raise Unreadable(f"{shown}: the march in it is on another section, {_shown(str(told.get('section')))}: its checksum is not that of the points of {section}")
     if number != 14:
         raise Unreadable(f"{shown}: the march in it is not spent, so that there is nothing to go on from; it ended with {number}: {WORDS[number]}")
