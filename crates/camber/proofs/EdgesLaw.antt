@@ -1,20 +1,15 @@
 -- The edges that a march tells are edges of the section, and two different ones. Assumes nothing.
 use mathlib.Core.Path.{◌≡◌, refl}
 use Rattle.std.specs.Prelude.{Some, Ok, Err}
-use Prim.Native.Nat.{ℕ, ◌<◌}
+use Prim.Native.Nat.{ℕ}
 use native.Mathlib.Omega.{arith}
-use lib.ListN.{length}
 use Rattle.errors.specs.Answer.{Answer, ◌>>=◌}
-use Rattle.queries.specs.Hits.{section_edges}
 use Rattle.queries.specs.Crossing.{crossing_on}
 use Rattle.queries.specs.declared.Crossing.{Crossing}
 use Rattle.queries.specs.declared.HitEdges.{HitEdges}
 use Rattle.queries.proofs.CrossingLaws.{crossing-edges_below, crossing-edges-differ, crossing_there}
 use Rattle.camber.specs.March.{Marched, march_entry, found_edges, march_edges}
-
--- both are numbers of edges, and they differ
-abbrev pub EdgesOf : Marched → HitEdges → Type 0
-EdgesOf m e = (e.first < length (section_edges m.section)) × (e.second < length (section_edges m.section)) × (e.first ≡ e.second → ⊥)
+use Rattle.camber.specs.EdgesLaw.{EdgesOf}
 
 pub march_edges_lem : (m : Marched) (e : HitEdges) → march_edges m ≡ Some e → EdgesOf m e
 unfolding found_edges
@@ -28,7 +23,7 @@ march_edges_lem m e told = go (march_entry m) told
     found x p =
         let there = crossing_there m.section m.line x p in
         let below = crossing-edges_below m.section m.line x there in
-        (below.0, below.1, crossing-edges-differ m.section m.line x there)
+        record { first_below = below.0; second_below = below.1; differ = crossing-edges-differ m.section m.line x there }
 
     go : (a : Answer (Unit {0})) → found_edges (a >>= λ passed. crossing_on m.section m.line) ≡ Some e → EdgesOf m e
     go (Err r) p = let z : ◌≡◌ {A = ℕ} 0 1 = cc in absurd (omega arith)

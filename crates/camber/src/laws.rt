@@ -1,11 +1,14 @@
-//! The laws of marches and of goings on: each is the contract of a function without a parameter, whose body is empty. What it says is a record of `refine::specs::Law`, of `specs/PauseLaw` or of `specs/Again`, a field to a sentence.
+//! The laws of marches, of goings on and of extractions: each is the contract of a function without a parameter, whose body is empty. What it says is a record of `refine::specs::Law`, of `specs/EdgesLaw`, of `specs/PauseLaw` or of `specs/Again`, a field to a sentence.
 ghost use Rattle.std.specs.Prelude.{◌≡◌, ℕ, List, length, Float, ◌*◌, ◌≤◌, Some};
 ghost use Rattle.runs.specs.Run.{under_limit};
 ghost use Rattle.inscribed.specs.Store.{width, most_slots, slots_within};
-ghost use Rattle.refine.specs.Law.{LimitLaw, SlotLaw};
+ghost use Rattle.queries.specs.declared.HitEdges.{HitEdges};
+ghost use Rattle.refine.specs.Law.{EndingLaw, LimitLaw, SlotLaw};
 ghost use Rattle.refine.specs.Machine.{most_waiting};
 ghost use Rattle.refine.specs.Report.{count_of};
 ghost use Rattle.camber.specs.March.{Marched, march_of, march_told, plain_march, marched_circles, march_state};
+ghost use Rattle.camber.specs.EdgesLaw.{EdgesOf};
+ghost use Rattle.camber.specs.Extraction.{extraction_of};
 ghost use Rattle.camber.specs.Going.{Going, going_of, plain_going, going_accepted};
 ghost use Rattle.camber.specs.PauseLaw.{told_by_march, left_by_march, left_by_going, PauseLaw, StateLaw};
 ghost use Rattle.camber.specs.Again.{AgainLaw};
@@ -28,6 +31,11 @@ pub fn slot_law()
         → (march_told (record m { slot_limit = few }) limit).edges ≡ (march_told (record m { slot_limit = more }) limit).edges }
     ensures states { (m : Marched) (few more limit : ℕ) → few ≤ more → count_of 0 (march_of (record m { slot_limit = more }) limit) ≤ few
         → march_state (record m { slot_limit = few }) limit ≡ march_state (record m { slot_limit = more }) limit }
+{}
+
+/// The edges that a march tells, at any limit and whichever way it ends, are edges of its section, and two different ones.
+pub fn edges_law()
+    ensures { (m : Marched) (limit : ℕ) (e : HitEdges) → (march_told m limit).edges ≡ Some e → EdgesOf m e }
 {}
 
 /// The law of a pause: a march that was spent at a first limit hands out a state, and going on from it with a second limit, by the same entry and with section, tolerances, store and count as the march left them, tells what the march at the sum of the limits tells:
@@ -65,4 +73,10 @@ pub fn slot_law_of_goings()
 pub fn again_law()
     ensures { (m : Marched) (first : ℕ) (other : List Float) → m.slot_limit ≤ most_slots
         → slots_within m.slot_limit other ≡ slots_within m.slot_limit m.store → AgainLaw m first other }
+{}
+
+/// The ending law of extractions, on every input, at every limit of units over both halves and every slot limit: that of `extraction::extract_circles` at 1,024 slots.
+/// An extraction ends, and where it isn't spent, every larger limit gives the same ending, count, units and whole store.
+pub fn ending_law_of_extractions()
+    ensures { (m : Marched) (limit : ℕ) → EndingLaw (extraction_of m) limit }
 {}

@@ -1,4 +1,4 @@
--- Demand 3 of edge fits: "an ending other than 14 is the same at larger limits". Assumes nothing.
+-- The ending law of edge fits: a fit ends, and an ending other than 14 is the same at larger limits. Assumes nothing.
 use mathlib.Core.Path.{◌≡◌, refl, sym, ap, ◌∙◌}
 use mathlib.Core.Bool.{Bool, true, false, cond}
 use mathlib.Core.List.{List, [], ◌∷◌}

@@ -2,6 +2,7 @@
 #![tactic(auto)]
 
 mod fitting;
+pub mod laws;
 mod open_end;
 
 ghost use Rattle.curve2.specs.Lent.{IsLent};

@@ -1,3 +1,3 @@
 -- Laws that belong to no one function.
-pub mod Laws
+pub mod EntryLaws
 pub mod Votes

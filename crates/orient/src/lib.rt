@@ -4,6 +4,7 @@
 mod camber;
 mod checks;
 mod curvature;
+pub mod laws;
 mod tmax;
 mod voting;
 
@@ -80,7 +81,7 @@ fn turn_of(how: OrientFwdAft, circles: &CirclesInUse<'_>) -> Result<bool, Refusa
 }
 
 // The same after the entry tests.
-#[tactic(auto, using(crate::proofs::Laws::orient_passed), unfolding(crate::specs::Orientation::fwd_asked))]
+#[tactic(auto, using(crate::proofs::EntryLaws::orient_passed), unfolding(crate::specs::Orientation::fwd_asked))]
 fn check_fwd(how: OrientFwdAft, store: &[f64], count: usize) -> Result<bool, Refusal>
     ensures { result ≡ fwd_asked how store.now count }
 {
@@ -115,7 +116,7 @@ fn swap_of(how: OrientUpperLower, circles: &CirclesInUse<'_>) -> Result<bool, Re
 }
 
 // The same after the entry tests.
-#[tactic(auto, using(crate::proofs::Laws::orient_passed), unfolding(crate::specs::Orientation::upper_asked))]
+#[tactic(auto, using(crate::proofs::EntryLaws::orient_passed), unfolding(crate::specs::Orientation::upper_asked))]
 fn check_upper(how: OrientUpperLower, store: &[f64], count: usize) -> Result<bool, Refusal>
     ensures { result ≡ upper_asked how store.now count }
 {

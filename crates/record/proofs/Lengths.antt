@@ -1,16 +1,19 @@
--- "The length of a record follows from how many bits stand in its maps." Assumes nothing.
-use mathlib.Core.Path.{◌≡◌, refl}
+-- How long a record is, by the bits that stand in its maps, and the longest. Assumes nothing.
+use mathlib.Core.Path.{◌≡◌, refl, ap, ◌∙◌}
 use mathlib.Core.Bool.{Bool, true, false, cond}
-use mathlib.Core.List.{List, [], ◌∷◌, ◌++◌}
+use mathlib.Core.List.{List, [], ◌∷◌, ◌++◌, append-nil}
 use Prim.Native.Nat.{ℕ, zero, suc, ◌+◌, ◌-◌, ◌*◌, ◌/◌, ◌%◌, ◌≤◌, ◌<◌}
 use native.Mathlib.Omega.{arith}
 use lib.Count.{ones, ones_step}
 use lib.ListN.{length, length-append, replicate, length-replicate}
 use lib.Ieee.{Float, binary64, to_bits, of_bits, lt}
-use Rattle.inscribed.specs.Store.{width, most_slots, numbers_of, circle_at, circles_from, circles_of, bad_circle, any_bad}
+use Rattle.std.proofs.lemmas.List.{replicate-append-replicate}
+use Rattle.inscribed.specs.Store.{width, most_slots, numbers_of, circle_at, circles_from, circles_of, all_numbers, bad_circle, any_bad}
 use Rattle.inscribed.specs.declared.Inscribed.{Inscribed}
+use Rattle.inscribed.proofs.StoreLaws.{circles-stored}
 use Rattle.points.specs.Numbers.{f1}
 use Rattle.record.specs.Record.{short_bytes, word_bytes, is_zero, map_of, fields_of, circle_record, circles_record, record_of, standing_bits}
+use Rattle.record.specs.Law.{most_record}
 
 pub short_length : (n : ℕ) → length (short_bytes n) ≡ 2
 unfolding short_bytes
@@ -59,12 +62,12 @@ pub record_length : (cs : List Inscribed) → length (record_of cs) ≡ 2 + 2 * 
 unfolding record_of
 record_length cs = omega (arith, length-append (short_bytes (length cs)) (circles_record cs), short_length (length cs), (circles_length cs).0)
 
--- "The longest record is 75,778 bytes."
-pub longest_record : (cs : List Inscribed) → length cs ≤ most_slots → length (record_of cs) ≤ 75778
+pub longest_record : (cs : List Inscribed) → length cs ≤ most_slots → length (record_of cs) ≤ most_record
 longest_record cs h = omega (arith, record_length cs, (circles_length cs).1, h)
 
--- and it is reached: by 1,024 good circles none of whose numbers is +0
-unit_circle : Inscribed
+-- ---- circles whose numbers are all 1: none is bad, and every bit of their maps stands
+
+pub unit_circle : Inscribed
 unit_circle = record { cx = f1; cy = f1; r = f1; p0x = f1; p0y = f1; p1x = f1; p1y = f1; l0 = f1; l1 = f1 }
 
 unit_ones : ones (map_of (numbers_of unit_circle)) ≡ 9
@@ -76,20 +79,34 @@ unfolding standing_bits
 units_ones zero = omega arith
 units_ones (suc n) = omega (arith, unit_ones, units_ones n)
 
+pub units_length : (n : ℕ) → length (record_of (replicate n unit_circle)) ≡ 2 + 74 * n
+units_length n = omega (arith, record_length (replicate n unit_circle), length-replicate n unit_circle, units_ones n)
+
 unit_good : bad_circle unit_circle ≡ false
 unfolding unit_circle bad_circle of_bits lt
 unit_good = refl
 
-units_good : (n : ℕ) → any_bad (replicate n unit_circle) ≡ false
+pub units_good : (n : ℕ) → any_bad (replicate n unit_circle) ≡ false
 unfolding any_bad
 units_good zero = refl
 units_good (suc n) = rw (unit_good, units_good n) refl
 
-pub longest_reached : (cs : List Inscribed) × (length cs ≡ most_slots) × (any_bad cs ≡ false) × (length (record_of cs) ≡ 75778)
-longest_reached =
-    let cs = replicate most_slots unit_circle in
-    let long : length cs ≡ most_slots = length-replicate most_slots unit_circle in
-    (cs, long, units_good most_slots, omega (arith, record_length cs, long, units_ones most_slots))
+unit_numbers : numbers_of unit_circle ≡ replicate width f1
+unfolding unit_circle numbers_of
+unit_numbers = refl
+
+units_numbers : (n : ℕ) → all_numbers (replicate n unit_circle) ≡ replicate (width * n) f1
+unfolding all_numbers
+units_numbers zero = refl
+units_numbers (suc n) =
+    ap (λ (xs : List Float). numbers_of unit_circle ++ xs) (units_numbers n)
+    ∙ ap (λ (xs : List Float). xs ++ replicate (width * n) f1) unit_numbers
+    ∙ replicate-append-replicate width (width * n) f1
+    ∙ ap (λ (k : ℕ). replicate k f1) (omega arith)
+
+pub units_stored : (n : ℕ) → circles_of (replicate (width * n) f1) n ≡ replicate n unit_circle
+units_stored n =
+    rw (append-nil (all_numbers (replicate n unit_circle)), units_numbers n, length-replicate n unit_circle) at (circles-stored (replicate n unit_circle) [])
 
 -- ---- circles from one of a store on: the first, then the others
 

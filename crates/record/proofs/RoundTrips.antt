@@ -1,26 +1,27 @@
--- Both round trips, of the two entry points' definitions. Assumes nothing.
-use mathlib.Core.Path.{◌≡◌, refl, subst}
+-- Both round trips, and how long a record is, of the two entry points' definitions. Assumes nothing.
+use mathlib.Core.Path.{◌≡◌, refl, ap}
 use mathlib.Core.Bool.{Bool, false, ◌||◌}
-use mathlib.Core.List.{List, [], ◌∷◌}
+use mathlib.Core.List.{List, [], ◌∷◌, ◌++◌}
 use Prim.Native.Nat.{ℕ, zero, suc, ◌+◌, ◌*◌, ◌≤◌}
 use native.Mathlib.Omega.{arith}
 use borrow.Author.Tests.{ltb-false, le-ltb}
 use lib.Dec.{T, ltb}
-use lib.ListN.{length, get_or, take, drop}
-use lib.Seq.{take_at}
+use lib.ListN.{length, get_or, take, drop, replicate, length-replicate}
 use lib.Ieee.{Float, binary64, nan, fits}
 use Rattle.std.specs.Prelude.{Ok, min}
 use Rattle.errors.specs.declared.Refusal.TheVariants.{BadNumber, NoRoom}
 use Rattle.errors.proofs.Laws.{given, ok_is}
 use Rattle.curve2.specs.Entry.{tested}
 use Rattle.curve2.proofs.Laws.{none_bad, or_left}
-use Rattle.inscribed.specs.Store.{width, most_slots, slots, numbers_of, circle_from, circle_at, circles_from, circles_of, all_numbers, stored, any_bad, bad_store, bad_store_count}
+use Rattle.inscribed.specs.Store.{width, most_slots, slots, numbers_of, circle_from, circle_at, circles_from, circles_of, stored, any_bad, bad_store, bad_store_count}
 use Rattle.inscribed.specs.declared.Inscribed.{Inscribed}
-use Rattle.inscribed.proofs.StoreLaws.{length-circles, length_all, stored_length, numbers_of-circles, circles_of-stored, count_fits}
-use Rattle.record.specs.Record.{record_of, write_entry, write_record, read_record, store_after}
-use Rattle.record.proofs.Lengths.{longest_record, longest_reached}
+use Rattle.inscribed.proofs.StoreLaws.{length-circles, stored_length, numbers_of-circles, circles_of-stored, count_fits}
+use Rattle.points.specs.Numbers.{f1}
+use Rattle.record.specs.Record.{record_of, write_entry, write_record, read_record, store_after, how_many}
+use Rattle.record.specs.Law.{WrittenLaw, ReadLaw, LengthLaw, most_record}
+use Rattle.record.proofs.Lengths.{record_length, longest_record, unit_circle, units_length, units_good, units_stored}
 use Rattle.record.proofs.Written.{Fits, AllFit, none, more, record_back}
-use Rattle.record.proofs.Read.{IsBytes, accepted}
+use Rattle.record.proofs.Read.{IsBytes, Accepted, accepted}
 
 -- a store of numbers of 64 bits
 abbrev pub AreDoubles : List Float → Type 0
@@ -64,33 +65,30 @@ module _ (ns : List Float) (count room : ℕ) (bs : List ℕ) (e : write_record 
       let m : min count (slots ns) ≡ count = omega (arith, h) in
       rw m at tests.1
 
-  -- "Writing and then reading" gives the circles in use
-  pub read_back : (most : ℕ) → AreDoubles ns → count ≤ most → most ≤ most_slots → read_record bs most ≡ Ok cs
-  read_back most d fit low =
-      let long = length-circles ns 0 count in
-      rw (← written.2) (record_back cs most (all_fit ns 0 count d) none_is_bad (omega (arith, long, fit)) low)
+  few : count ≤ slots ns
+  few = ltb-false (slots ns) count (or_left _ _ tests.0)
 
-  -- "returns the store's bits": the numbers of the circles in use are again the first of the store that is read into
-  pub read_written : (old : List Float) → AreDoubles ns → count ≤ slots old → take (width * count) (store_after (read_record bs (slots old)) old) ≡ take (width * count) ns
-  unfolding stored
-  read_written old d fit =
-      let back = read_back (slots old) d fit (omega arith) in
-      let long = length-circles ns 0 count in
-      let bounds = (count_fits ns count (or_left _ _ tests.0)).0 in
-      let numbers : length (all_numbers cs) ≡ width * count = omega (arith, length_all cs, long) in
-      rw (back, take_at (all_numbers cs) (drop (width * length cs) old) (width * count) numbers) (numbers_of-circles ns count (omega (arith, bounds)))
+  module _ (other : List Float) (d : AreDoubles ns) (fit : count ≤ slots other) where
+    read_back : read_record bs (slots other) ≡ Ok cs
+    read_back =
+        let long = length-circles ns 0 count in
+        rw (← written.2) (record_back cs (slots other) (all_fit ns 0 count d) none_is_bad (omega (arith, long, fit)) (omega arith))
 
-  -- "The longest record is 75,778 bytes."
-  pub written_short : length bs ≤ 75778
-  written_short =
-      let h = ltb-false (slots ns) count (or_left _ _ tests.0) in
-      rw (← written.2) (longest_record cs (omega (arith, length-circles ns 0 count, h)))
+    stored_back : stored cs other ≡ take (width * count) ns ++ drop (width * count) other
+    unfolding stored
+    stored_back =
+        let bounds = (count_fits ns count (or_left _ _ tests.0)).0 in
+        rw (length-circles ns 0 count, numbers_of-circles ns count (omega (arith, bounds)))
+
+    pub written_law : WrittenLaw ns count bs other
+    written_law = record { circles = read_back; store = rw read_back stored_back }
+
+  pub length_law : LengthLaw ns count bs
+  length_law =
+      let long = length-circles ns 0 count in
+      rw (← written.2) (record { counted = rw (record_length cs, long); longest = longest_record cs (omega (arith, long, few)) })
 
 -- ---- every accepted string
-
--- the record of what was read is the string
-pub record_read : (bs : List ℕ) (most : ℕ) (cs : List Inscribed) → IsBytes bs → read_record bs most ≡ Ok cs → record_of cs ≡ bs
-record_read bs most cs b e = (accepted bs most cs b e).string
 
 all_passed : (a b c : Bool) → a ≡ false → b ≡ false → c ≡ false → tested ((NoRoom, a || b) ∷ (BadNumber, c) ∷ []) ≡ Ok tt
 all_passed a b c p q r = rw (p, q, r) refl
@@ -111,21 +109,28 @@ module _ (ns : List Float) (cs : List Inscribed) (room : ℕ) (held : circles_of
   unfolding write_record
   write_held = rw (entry_passed, held) refl
 
--- "every accepted string is what the writer gives for what was read", from the store that was read into
-pub written_read : (bs : List ℕ) (old : List Float) (cs : List Inscribed) (room : ℕ) → IsBytes bs → read_record bs (slots old) ≡ Ok cs → length bs ≤ room → write_record (store_after (read_record bs (slots old)) old) (length cs) room ≡ Ok bs
-written_read bs old cs room b e fit =
-    let a = accepted bs (slots old) cs b e in
-    let long = stored_length cs old (omega (arith, a.few)) in
-    let held : slots (stored cs old) ≡ slots old = rw long refl in
-    rw (e, ← a.string) (write_held (stored cs old) cs room (circles_of-stored cs old) (rw held a.few) a.good (rw a.string fit))
+module _ (bs : List ℕ) (store : List Float) (cs : List Inscribed) (b : IsBytes bs) (e : read_record bs (slots store) ≡ Ok cs) where
+  known : Accepted bs (slots store) cs
+  known = accepted bs (slots store) cs b e
 
--- the writer gives the longest record
-pub longest_written : (ns : List Float) × (bs : List ℕ) × (write_record ns most_slots 75778 ≡ Ok bs) × (length bs ≡ 75778)
-longest_written =
-    let l = longest_reached in
-    let cs = l.0 in
-    let numbers = length_all cs in
-    let ns = stored cs (all_numbers cs) in
-    let held : length ns ≡ length (all_numbers cs) = stored_length cs (all_numbers cs) (omega (arith, numbers)) in
-    let wrote = write_held ns cs 75778 (circles_of-stored cs (all_numbers cs)) (omega (arith, held, numbers, l.1)) l.2 (omega (arith, l.3)) in
-    (ns, record_of cs, subst (λ (n : ℕ). write_record ns n 75778 ≡ Ok (record_of cs)) l.1 wrote, l.3)
+  written_again : (room : ℕ) → length bs ≤ room → write_record (store_after (read_record bs (slots store)) store) (length cs) room ≡ Ok bs
+  written_again room fit =
+      let long = stored_length cs store (omega (arith, known.few)) in
+      let held : slots (stored cs store) ≡ slots store = rw long refl in
+      rw (e, ← known.string) (write_held (stored cs store) cs room (circles_of-stored cs store) (rw held known.few) known.good (rw known.string fit))
+
+  pub read_law : ReadLaw bs store cs
+  read_law = record { string = known.string; written = written_again }
+
+-- ---- the longest
+
+-- of n circles whose numbers are all 1
+units_written : (n : ℕ) → n ≤ most_slots → write_record (replicate (width * n) f1) n (2 + 74 * n) ≡ Ok (record_of (replicate n unit_circle))
+units_written n fit =
+    let long : length (replicate n unit_circle) ≡ n = length-replicate n unit_circle in
+    let numbers : length (replicate (width * n) f1) ≡ width * n = length-replicate (width * n) f1 in
+    let held : circles_of (replicate (width * n) f1) (length (replicate n unit_circle)) ≡ replicate n unit_circle = rw long (units_stored n) in
+    rw long at (write_held (replicate (width * n) f1) (replicate n unit_circle) (2 + 74 * n) held (omega (arith, long, numbers, fit)) (units_good n) (omega (arith, units_length n)))
+
+pub longest_written : how_many (write_record (replicate (width * most_slots) f1) most_slots most_record) ≡ Ok most_record
+longest_written = rw (units_written most_slots (omega arith)) (ap (λ (k : ℕ). Ok k) (units_length most_slots))

@@ -1,3 +1,4 @@
 -- The hand-over record of a list of circles, written and read.
 pub mod Record
 pub mod Code
+pub mod Law

@@ -1,6 +1,7 @@
 // The hand-over record of a list of circles: one string of bytes, written from a store and read into one.
 #![tactic(auto)]
 
+pub mod laws;
 mod reading;
 mod writing;
 

@@ -16,7 +16,7 @@ use Rattle.shuffle.specs.Shuffle.{place, bad_bytes, transposed, shuffled, unshuf
 use Rattle.shuffle.specs.Code.{standing, Bounded, Distinct, Moved}
 use Rattle.shuffle.proofs.Places.{place_below, place-back, place_distinct}
 use Rattle.shuffle.proofs.MovedLaws.{moved_all}
-use Rattle.shuffle.proofs.Laws.{shuffled-length, unshuffled-length}
+use Rattle.shuffle.proofs.ShuffleLaws.{shuffled-length, unshuffled-length}
 
 -- ---- the tests
 

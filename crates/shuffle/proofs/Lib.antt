@@ -4,6 +4,6 @@ pub mod MovedLaws
 pub mod ByteLaws
 pub mod TurnLaws
 pub mod WordLaws
-pub mod Laws
+pub mod ShuffleLaws
 pub mod EntryLaws
 pub mod LayoutLaws

@@ -12,6 +12,7 @@ use lib.ListN.{length, get_or}
 use lib.Seq.{ext_get_or}
 use Rattle.shuffle.specs.Shuffle.{tabulated}
 use Rattle.shuffle.specs.Words.{byte_of, word_of, turned}
+use Rattle.shuffle.specs.Law.{TurnLaw}
 use Rattle.shuffle.specs.Code.{difference, lower, upper}
 use Rattle.shuffle.proofs.ByteLaws.{byte_lt, xor_byte, and_byte, down_byte, up_byte, up-low, xor_back, tabulated_same, word_bytes, byte_word}
 use Rattle.shuffle.proofs.MovedLaws.{order, tabulated-length, tabulated-at}
@@ -260,6 +261,5 @@ module _ (ws : List ℕ) (whole : length ws ≡ 8) (fit : (k : ℕ) → get_or w
   unfolding turned
   twice_table = tabulated_same 8 (λ i. word_of (tabulated 8 (λ k. byte_of i (get_or (turned ws) k 0)))) (λ k. get_or ws k 0) again
 
-  -- "twice gives the eight words back"
-  pub turned_twice : turned (turned ws) ≡ ws
-  turned_twice = twice_table ∙ sym (listed 8 ws whole)
+  pub turn_law : TurnLaw ws
+  turn_law = record { bytes = λ i k h l. turned_byte ws i k h l; twice = twice_table ∙ sym (listed 8 ws whole) }

@@ -2,3 +2,4 @@
 pub mod Shuffle
 pub mod Words
 pub mod Code
+pub mod Law

@@ -1,6 +1,7 @@
 // Stored numbers sorted by byte place, and back: like bytes lie together, which archives store better.
 #![tactic(auto)]
 
+pub mod laws;
 mod moving;
 pub mod words;
 

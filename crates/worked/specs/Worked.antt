@@ -1,4 +1,4 @@
--- The sums done by hand that are marked P: one row each. The one claim for all of them stands in proofs/Rows. Assumes nothing.
+-- The sums done by hand that are marked P: one row each. The one claim for all of them is the contract of `laws::worked_sums`. Assumes nothing.
 use Rattle.std.specs.Prelude.{◌≡◌, Bool, true, false, List, [], ◌∷◌, ℕ, Float, Ok, Err}
 use Rattle.std.specs.Float.{binary64}
 use Rattle.std.specs.Float.Ieee.{of_bits, units, neg}

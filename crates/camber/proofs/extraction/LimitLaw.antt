@@ -1,4 +1,4 @@
--- Demand 3 of extractions: "an ending other than 14 is the same at larger limits". Assumes nothing.
+-- The ending law of extractions: an extraction ends, and an ending other than 14 is the same at larger limits. Assumes nothing.
 use mathlib.Core.Path.{◌≡◌, refl, sym, ap, ◌∙◌}
 use mathlib.Core.Bool.{Bool}
 use mathlib.Core.List.{List, [], ◌∷◌}

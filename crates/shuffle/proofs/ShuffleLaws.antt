@@ -1,4 +1,4 @@
--- What 02 (h) says of the definitions: where each byte goes, that each undoes the other, and that none or one number stay as they are. Assumes nothing.
+-- The law of both rearrangements: where each byte goes, that each undoes the other, and that no number and one number stay as they are. Assumes nothing.
 use mathlib.Core.Path.{◌≡◌, ◌∙◌, sym, ap}
 use mathlib.Core.List.{List}
 use Prim.Native.Nat.{ℕ, ◌+◌, ◌*◌, ◌/◌, ◌%◌, ◌≤◌, ◌<◌}
@@ -6,6 +6,7 @@ use native.Mathlib.Omega.{arith}
 use lib.ListN.{length, get_or}
 use lib.Seq.{ext_get_or}
 use Rattle.shuffle.specs.Shuffle.{place, transposed, shuffled, unshuffled}
+use Rattle.shuffle.specs.Law.{ShuffleLaw}
 use Rattle.shuffle.proofs.Places.{place-bound, place_column, place-row, place_below, place-back}
 use Rattle.shuffle.proofs.MovedLaws.{tabulated-length, tabulated-at}
 
@@ -42,34 +43,52 @@ transposed_twice n m bs whole =
 module _ (bs : List ℕ) where
   pub shuffled-length : length bs % 8 ≡ 0 → length (shuffled bs) ≡ length bs
   unfolding shuffled
-  shuffled-length e = omega (arith, transposed-length (length bs / 8) 8 bs)
+  shuffled-length e = transposed-length _ _ bs ∙ omega (arith, e)
 
   pub unshuffled-length : length bs % 8 ≡ 0 → length (unshuffled bs) ≡ length bs
   unfolding unshuffled
-  unshuffled-length e = omega (arith, transposed-length 8 (length bs / 8) bs)
+  unshuffled-length e = transposed-length _ _ bs ∙ omega (arith, e)
 
-  -- "for n numbers of eight bytes, byte i of number k goes to place i × n + k"
-  pub shuffled_byte : (n i k : ℕ) → length bs ≡ 8 * n → i < 8 → k < n → get_or (shuffled bs) (i * n + k) 0 ≡ get_or bs (k * 8 + i) 0
-  unfolding shuffled
-  shuffled_byte n i k e h l =
-      let f : length bs / 8 ≡ n = omega arith in
-      rw f (transposed_byte n 8 bs i k h l)
+  module _ (n : ℕ) (whole : length bs ≡ 8 * n) where
+    count : length bs / 8 ≡ n
+    count = omega (arith, whole)
 
-  -- "each undoes the other"
-  pub shuffle_undone : length bs % 8 ≡ 0 → unshuffled (shuffled bs) ≡ bs
-  unfolding shuffled unshuffled
-  shuffle_undone e = rw (ap (λ (x : ℕ). x / 8) (shuffled-length e)) (transposed_twice (length bs / 8) 8 bs (omega arith))
+    no_part : length bs % 8 ≡ 0
+    no_part = omega (arith, whole)
 
-  pub unshuffle_undone : length bs % 8 ≡ 0 → shuffled (unshuffled bs) ≡ bs
-  unfolding shuffled unshuffled
-  unshuffle_undone e = rw (ap (λ (x : ℕ). x / 8) (unshuffled-length e)) (transposed_twice 8 (length bs / 8) bs (omega arith))
-
-  -- "n of 0 and 1 change nothing"
-  module _ (n : ℕ) (few : n ≤ 1) (whole : length bs ≡ 8 * n) where
-    pub shuffle_few : shuffled bs ≡ bs
+    shuffled_byte : (i k : ℕ) → i < 8 → k < n → get_or (shuffled bs) (i * n + k) 0 ≡ get_or bs (k * 8 + i) 0
     unfolding shuffled
-    shuffle_few = let f : length bs / 8 ≡ n = omega arith in rw f (transposed_same n 8 bs whole (λ p h. let e : n ≡ 1 = omega arith in rw e (omega arith)))
+    shuffled_byte i k h l = rw count (transposed_byte n 8 bs i k h l)
 
-    pub unshuffle_few : unshuffled bs ≡ bs
+    unshuffled_byte : (i k : ℕ) → i < 8 → k < n → get_or (unshuffled bs) (k * 8 + i) 0 ≡ get_or bs (i * n + k) 0
     unfolding unshuffled
-    unshuffle_few = let f : length bs / 8 ≡ n = omega arith in rw f (transposed_same 8 n bs (omega arith) (λ p h. let e : n ≡ 1 = omega arith in rw e (omega arith)))
+    unshuffled_byte i k h l = rw count (transposed_byte 8 n bs k i l h)
+
+    shuffle_undone : unshuffled (shuffled bs) ≡ bs
+    unfolding shuffled unshuffled
+    shuffle_undone = rw (ap (λ (x : ℕ). x / 8) (shuffled-length no_part)) (transposed_twice (length bs / 8) 8 bs (omega (arith, no_part)))
+
+    unshuffle_undone : shuffled (unshuffled bs) ≡ bs
+    unfolding shuffled unshuffled
+    unshuffle_undone = rw (ap (λ (x : ℕ). x / 8) (unshuffled-length no_part)) (transposed_twice 8 (length bs / 8) bs (omega (arith, no_part)))
+
+    shuffle_few : n ≤ 1 → shuffled bs ≡ bs
+    unfolding shuffled
+    shuffle_few few = rw count (transposed_same n 8 bs whole (λ p h. let e : n ≡ 1 = omega arith in rw e (omega arith)))
+
+    unshuffle_few : n ≤ 1 → unshuffled bs ≡ bs
+    unfolding unshuffled
+    unshuffle_few few = rw count (transposed_same 8 n bs (omega (arith, whole)) (λ p h. let e : n ≡ 1 = omega arith in rw e (omega arith)))
+
+    pub shuffle_law : ShuffleLaw n bs
+    shuffle_law =
+        record {
+          sorted = shuffled_byte;
+          restored = unshuffled_byte;
+          sorted_length = shuffled-length no_part;
+          restored_length = unshuffled-length no_part;
+          sorted_undone = shuffle_undone;
+          restored_undone = unshuffle_undone;
+          sorted_few = shuffle_few;
+          restored_few = unshuffle_few;
+        }
