@@ -75,7 +75,7 @@ enum rummyteak_ending {
     RUMMYTEAK_OFF_CURVE = 9,
     /* a line to be halved is too long for the tolerance */
     RUMMYTEAK_TOO_LONG = 10,
-    /* a vector to be normalised has length zero */
+    /* a vector to be normalised has length zero; by curvature, a camber line's ends lie within its tolerance of each other */
     RUMMYTEAK_ZERO_LENGTH = 11,
     /* a value on the way is infinite or NaN */
     RUMMYTEAK_NOT_FINITE = 12,
@@ -182,7 +182,9 @@ uint32_t rummyteak_joined_crossing(const double *section, size_t section_len, do
  * The piece is cleaned: how many points it has, whether it is closed, and how many points it was given before cleaning, which
  * is one more than the section has, at most. */
 
-/* The part from the length l0 along to l1. Of a closed section it runs over the seam where l1 lies before l0. */
+/* The part from the length l0 along to l1. Of a closed section it runs over the seam where the end's length along, as worked out
+ * from its edge and fraction, lies before the start's. These are l1 and l0 but for rounding: where l1 is below l0 by so little that
+ * both come out the same, there is no way round, but 21 or a piece of almost no length. */
 uint32_t rummyteak_between_lengths(const double *section, size_t section_len, double tol, double l0, double l1,
                                    double *out, size_t out_len, size_t *count, bool *is_closed, size_t *given);
 
@@ -370,7 +372,9 @@ uint32_t rummyteak_orient_tmax_fwd(double *store, size_t store_len, size_t count
 uint32_t rummyteak_orient_airflow(double x, double y, double *store, size_t store_len, size_t count, bool *turned);
 uint32_t rummyteak_orient_fwd(double x, double y, double *store, size_t store_len, size_t count, bool *turned);
 
-/* Second contact on the upper side: by the side to which the camber bends, by a vector to the upper side, or by one to the lower. */
+/* Second contact on the upper side: by the side to which the camber bends, by a vector to the upper side, or by one to the lower.
+ * By curvature a camber line whose ends lie within its tolerance of each other is 11. It is the curve through the centres, and its
+ * tolerance a twentieth of the average distance of neighbouring ones. */
 uint32_t rummyteak_orient_curvature(double *store, size_t store_len, size_t count, bool *swapped);
 uint32_t rummyteak_orient_upper(double x, double y, double *store, size_t store_len, size_t count, bool *swapped);
 uint32_t rummyteak_orient_lower(double x, double y, double *store, size_t store_len, size_t count, bool *swapped);

@@ -450,7 +450,8 @@ def length_along(section: Points, tol: float, index: int, fraction: float) -> fl
 
 
 def between_lengths(section: Points, tol: float, l0: float, l1: float) -> Piece:
-    """The part from one length along to another, over the seam of a closed section where the second lies before the first."""
+    """The part from one length along to another. Of a closed section it runs over the seam where the end's length along, as worked out from its edge and fraction, lies before the start's: so where `l1`
+    is below `l0`, unless it is by so little that both come out the same; then there is no way round, but 21 or a piece of almost no length."""
     p = _numbers(section)
     out = (ctypes.c_double * (len(p) + 2))()
     count, closed, given = ctypes.c_size_t(), ctypes.c_bool(), ctypes.c_size_t()
@@ -765,7 +766,8 @@ def orient_fwd(circles: Circles, x: float, y: float) -> Tuple[Tuple[Inscribed, .
 
 
 def orient_curvature(circles: Circles) -> Tuple[Tuple[Inscribed, ...], bool]:
-    """Second contact on the upper side, by the side to which the camber bends; and whether the contacts were swapped."""
+    """Second contact on the upper side, by the side to which the camber bends; and whether the contacts were swapped. A camber line whose ends lie within its tolerance of each other is 11; it is the curve
+    through the centres, and its tolerance a twentieth of the average distance of neighbouring ones."""
     return _oriented("orient_curvature", (), circles)
 
 

@@ -30,7 +30,7 @@ WORDS = {
     8: "the line has not exactly two hits",
     9: "a length along below 0 or above the whole",
     10: "a line is too long to be halved down to the tolerance",
-    11: "a direction has length zero",
+    11: "a direction has length zero, or, by curvature, the camber line's ends meet",
     12: "a value on the way isn't finite",
     13: "the advance finds no line",
     14: "spent: one more unit is wanted than the limit",

@@ -26,7 +26,7 @@ ADVICE = {
     8: "hand in another --line, one that crosses the section exactly twice and at no vertex",
     9: "hand in lengths from 0 to the whole",
     10: "hand in a larger --tol, or a --line nearer to the section",
-    11: "look for doubled points, and hand in another --line",
+    11: "look for doubled points, and hand in another --line, or, where it comes of --curvature, --upper or --lower in its place",
     12: "look for numbers of very different sizes, and hand in another --line",
     13: "hand in another --line, or another --tol",
     14: "hand in a larger --limit",
