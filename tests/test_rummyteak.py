@@ -469,6 +469,17 @@ class Rows(unittest.TestCase):
         self.assertEqual((state.refining, state.fraction, state.waiting), (True, 0, (at(5), PAIR[0])))
         self.assertIs(type(state.waiting[1].cx), float)
         self.assertEqual(eval(repr(state), vars(rt)), state)
+        # any iterable of circles, walked once; any yes or no
+        self.assertEqual(rt.MarchState(True, 0, (c for c in state.waiting)), state)
+        self.assertEqual(rt.MarchState(True, 0, iter([array("d", c) for c in state.waiting])), state)
+
+        class Yes:
+            def __bool__(self) -> bool:
+                return True
+
+        self.assertEqual(rt.MarchState(Yes(), 0, state.waiting), state)
+        with self.assertRaises(TypeError):
+            rt.MarchState(True, 0, [4.0, 1, 1, 4, 0, 4, 2, 4, 14])
         self.assertEqual((str(state), str(rt.MarchState(False, 2, ())), str(rt.MarchState(False, 9, (at(5),)))), ("refining, 2 waiting", "advancing, fraction 2 due", "advancing, fraction 9 due, 1 waiting"))
         nan = float("nan")
         again = pickle.loads(pickle.dumps(state))

@@ -164,11 +164,10 @@ class MarchState:
     waiting: Tuple[Inscribed, ...]
 
     def __post_init__(self) -> None:
-        if not isinstance(self.refining, int):
-            raise TypeError(f"refining: a yes or no, not {self.refining!r}")
-        if any(isinstance(c, (int, float)) for c in self.waiting):
-            raise TypeError(f"waiting: a sequence of circles, of {WIDTH} numbers each")
-        circles = [tuple(real("waiting", x) for x in c) for c in self.waiting]
+        waiting = tuple(self.waiting)
+        if any(isinstance(c, (int, float)) for c in waiting):
+            raise TypeError(f"waiting: circles, of {WIDTH} numbers each, and not their numbers")
+        circles = [tuple(real("waiting", x) for x in c) for c in waiting]
         if any(len(c) != WIDTH for c in circles):
             raise ValueError(f"waiting: a circle is {WIDTH} numbers")
         object.__setattr__(self, "refining", bool(self.refining))
